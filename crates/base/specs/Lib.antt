@@ -1,0 +1,3 @@
+-- The laws that all floors share.
+pub mod Bools
+pub mod Lists

@@ -1,0 +1,106 @@
+-- Lists: membership, what holds of every or of some member, the tests of both, sums, and lists of lists laid flat.
+-- Assumes nothing.
+use mathlib.Core.Path.{_≡_, refl, sym, ap, subst, _∙_}
+use mathlib.Core.Bool.{Bool, true, false, _&&_, _||_}
+use mathlib.Core.Logic.{_⊎_, inl, inr, ⊎-elim}
+use mathlib.Core.List.{List, [], _∷_, _++_, map, List·Memᴰ, List·Memᴰ·head, List·Memᴰ·tail, List·Memᴰ·cases-cons, List·Memᴰ·not-nil, List·Memᴰ·append-cases, Memᴰ·append-left, Memᴰ·append-right}
+use Prim.Native.Nat.{ℕ, zero, suc, _+_, _≤_}
+use native.Mathlib.Omega.{arith}
+use lib.ListN.{length}
+use Rattle.base.specs.Bools.{both, both-left, both-right, either, either-left, either-right, clash}
+
+infix 25 _∈_
+
+abbrev pub _∈_ {ℓ} : {A : Type ℓ} → A → List A → Type ℓ
+a ∈ l = List·Memᴰ a l
+
+module _ {ℓ} {A : Type ℓ} where
+  pub here : {a : A} {l : List A} → a ∈ a ∷ l
+  here = List·Memᴰ·head refl
+
+  pub there : {a b : A} {l : List A} → a ∈ l → a ∈ b ∷ l
+  there m = List·Memᴰ·tail m
+
+  pub ∈-left : {a : A} {s : List A} (t : List A) → a ∈ s → a ∈ s ++ t
+  ∈-left t m = Memᴰ·append-left t m
+
+  pub ∈-right : {a : A} (s : List A) {t : List A} → a ∈ t → a ∈ s ++ t
+  ∈-right s m = Memᴰ·append-right s m
+
+  pub ∈-split : {a : A} (s : List A) {t : List A} → a ∈ s ++ t → (a ∈ s) ⊎ (a ∈ t)
+  ∈-split s m = List·Memᴰ·append-cases s m
+
+  -- P holds of every member
+  abbrev pub Every {κ} : (A → Type κ) → List A → Type (ℓ ⊔ κ)
+  Every P l = (a : A) → a ∈ l → P a
+
+  -- P holds of some member
+  abbrev pub Some {κ} : (A → Type κ) → List A → Type (ℓ ⊔ κ)
+  Some P l = (a : A) × a ∈ l × P a
+
+pub every-none {ℓ κ} : {A : Type ℓ} (P : A → Type κ) → Every P []
+every-none P a m = absurd (List·Memᴰ·not-nil m)
+
+module _ {ℓ κ} {A : Type ℓ} {P : A → Type κ} where
+  pub every-more : {a : A} {l : List A} → P a → Every P l → Every P (a ∷ l)
+  every-more p ps b m = ⊎-elim (λ e. subst P (sym e) p) (λ t. ps b t) (List·Memᴰ·cases-cons m)
+
+  pub every-first : {a : A} {l : List A} → Every P (a ∷ l) → P a
+  every-first ps = ps _ here
+
+  pub every-rest : {a : A} {l : List A} → Every P (a ∷ l) → Every P l
+  every-rest ps b m = ps b (there m)
+
+  pub every-both : {s t : List A} → Every P s → Every P t → Every P (s ++ t)
+  every-both {s = s} p q b m = ⊎-elim (p b) (q b) (∈-split s m)
+
+  pub every-left : {s : List A} (t : List A) → Every P (s ++ t) → Every P s
+  every-left t p b m = p b (∈-left t m)
+
+  pub every-right : (s : List A) {t : List A} → Every P (s ++ t) → Every P t
+  every-right s p b m = p b (∈-right s m)
+
+module _ {ℓ} {A : Type ℓ} where
+  -- the test that t holds of every member
+  abbrev pub all : (A → Bool) → List A → Bool
+  all t [] = true
+  all t (a ∷ l) = t a && all t l
+
+  -- the test that t holds of some member
+  abbrev pub any : (A → Bool) → List A → Bool
+  any t [] = false
+  any t (a ∷ l) = t a || any t l
+
+  pub all-every : (t : A → Bool) (l : List A) → all t l ≡ true → Every (λ (a : A). t a ≡ true) l
+  all-every t [] p = every-none (λ (a : A). t a ≡ true)
+  all-every t (a ∷ l) p = every-more (both-left (t a) (all t l) p) (all-every t l (both-right (t a) (all t l) p))
+
+  pub every-all : (t : A → Bool) (l : List A) → Every (λ (a : A). t a ≡ true) l → all t l ≡ true
+  every-all t [] p = refl
+  every-all t (a ∷ l) p = both (t a) (all t l) (every-first p) (every-all t l (every-rest p))
+
+  pub any-some : (t : A → Bool) (l : List A) → any t l ≡ true → Some (λ (a : A). t a ≡ true) l
+  any-some t [] p = clash p refl
+  any-some t (a ∷ l) p =
+      ⊎-elim (λ (q : t a ≡ true). (a, here, q)) (λ (q : any t l ≡ true). later (any-some t l q)) (either (t a) (any t l) p)
+    where
+      later : Some (λ (b : A). t b ≡ true) l → Some (λ (b : A). t b ≡ true) (a ∷ l)
+      later s = (s .0, there (s .1), s .2)
+
+  pub some-any : (t : A → Bool) (l : List A) → Some (λ (a : A). t a ≡ true) l → any t l ≡ true
+  some-any t [] s = absurd (List·Memᴰ·not-nil (s .1))
+  some-any t (a ∷ l) s =
+      ⊎-elim
+      (λ (e : s .0 ≡ a). either-left (t a) (any t l) (subst (λ (x : A). t x ≡ true) e (s .2)))
+      (λ (m : s .0 ∈ l). either-right (t a) (any t l) (some-any t l (s .0, m, s .2)))
+      (List·Memᴰ·cases-cons (s .1))
+
+  -- lists one after the other
+  abbrev pub flat {κ} : {B : Type κ} → (B → List A) → List B → List A
+  flat f [] = []
+  flat f (b ∷ l) = f b ++ flat f l
+
+  -- the sum of what each member weighs
+  abbrev pub sum : (A → ℕ) → List A → ℕ
+  sum w [] = 0
+  sum w (a ∷ l) = w a + sum w l

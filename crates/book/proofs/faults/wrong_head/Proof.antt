@@ -1,0 +1,25 @@
+-- `book::faults::wrong_head` meets its contract: each test says which rung holds. Assumes nothing.
+use borrow.Author.Tests.{le-ltb, lt-ltb, le-leb, lt-leb}
+use Rattle.book.specs.Faults.{wrongHead}
+use Rattle.book.proofs.faults.wrong_head.Statement.{statement}
+use Rattle.book.proofs.faults.wrong_head.Tie as tie
+use Rattle.book.proofs.faults.wrong_head.Reads as reads
+use Rattle.book.proofs.faults.wrong_head.Lts as lts
+
+-- src/faults.rt:64:9
+returns : tie.Need-returns
+unfolding wrongHead
+returns c = simp (le-ltb _ _ (c .if1 .taken))
+
+-- src/faults.rt:67:9
+returns-2 : tie.Need-returns-2
+unfolding wrongHead
+returns-2 c = simp (lt-ltb _ _ (c .before .if1 .left), lt-leb _ _ (c .if2 .taken))
+
+-- src/faults.rt:60:1
+returns-3 : tie.Need-returns-3
+unfolding wrongHead
+returns-3 c = simp (lt-ltb _ _ (c .before .if1 .left), le-leb _ _ (c .if2 .left))
+
+pub wrong-head-spec : {M : Type 1} → statement M
+wrong-head-spec = tie.close (tie.spec returns returns-2 returns-3)

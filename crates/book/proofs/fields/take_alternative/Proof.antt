@@ -1,0 +1,47 @@
+-- `book::fields::take_alternative` meets its contract: its value is the field's, and its fault the value's. Assumes nothing.
+use mathlib.Core.Path.{_∙_, ap}
+use Prim.Native.Nat.{ℕ}
+use Rattle.book.specs.WalkLaws.{field-by}
+use Rattle.book.specs.Faults.{wrongAlternative}
+use borrow.Author.Needs.{needs}
+use Rattle.book.proofs.fields.take_alternative.Statement.{statement}
+use Rattle.book.proofs.fields.take_alternative.Tie as tie
+use Rattle.book.proofs.fields.take_alternative.Reads as reads
+use Rattle.book.proofs.fields.take_alternative.Lts as lts
+use Rattle.book.proofs.faults.wrong_alternative.Reads as wrong-alternative-reads
+use Rattle.book.proofs.fields.left_behind.Reads as left-behind-reads
+use Rattle.book.proofs.fields.peek.Reads as peek-reads
+use Rattle.book.proofs.fields.tested.Reads as tested-reads
+
+-- src/fields.rt:153:9
+peek-requires : tie.Need-peek-requires
+peek-requires c κs = search needs
+
+-- src/fields.rt:154:9
+left-behind-requires : tie.Need-left-behind-requires
+left-behind-requires c κs = search needs
+
+-- src/fields.rt:155:26
+wrong-alternative-requires : tie.Need-wrong-alternative-requires
+wrong-alternative-requires c κs = search needs
+
+-- src/fields.rt:155:5
+tested-requires : tie.Need-tested-requires
+tested-requires c κs = search needs
+
+-- src/fields.rt:149:1
+returns : tie.Need-returns
+returns c = 
+    c .tested .ensures
+    ∙ field-by _ _ _ _ _ (c .before .before .before .peek .ensures .0)
+    (c .before .wrong-alternative .ensures ∙ ap (λ (left : ℕ). wrongAlternative left 1024 (c .before .before .before .before .before .args .sum) (c .before .before .before .peek .result)) (c .before .before .left-behind .ensures))
+
+pub take-alternative-spec : {M : Type 1} → statement M
+take-alternative-spec =
+    tie.close
+    (tie.spec
+    peek-requires
+    left-behind-requires
+    wrong-alternative-requires
+    tested-requires
+    returns)

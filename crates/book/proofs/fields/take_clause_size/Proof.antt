@@ -1,0 +1,42 @@
+-- `book::fields::take_clause_size` meets its contract: its value is the field's, and its fault the value's. Assumes nothing.
+use mathlib.Core.Path.{_∙_, ap}
+use Prim.Native.Nat.{ℕ}
+use Rattle.book.specs.WalkLaws.{field-by}
+use Rattle.book.specs.Faults.{wrongClause}
+use borrow.Author.Needs.{needs}
+use Rattle.book.proofs.fields.take_clause_size.Statement.{statement}
+use Rattle.book.proofs.fields.take_clause_size.Tie as tie
+use Rattle.book.proofs.fields.take_clause_size.Reads as reads
+use Rattle.book.proofs.fields.take_clause_size.Lts as lts
+use Rattle.book.proofs.faults.wrong_clause.Reads as wrong-clause-reads
+use Rattle.book.proofs.fields.left_behind.Reads as left-behind-reads
+use Rattle.book.proofs.fields.peek.Reads as peek-reads
+use Rattle.book.proofs.fields.tested.Reads as tested-reads
+
+-- src/fields.rt:133:9
+peek-requires : tie.Need-peek-requires
+peek-requires c κs = search needs
+
+-- src/fields.rt:134:9
+left-behind-requires : tie.Need-left-behind-requires
+left-behind-requires c κs = search needs
+
+-- src/fields.rt:135:26
+wrong-clause-requires : tie.Need-wrong-clause-requires
+wrong-clause-requires c κs = search needs
+
+-- src/fields.rt:135:5
+tested-requires : tie.Need-tested-requires
+tested-requires c κs = search needs
+
+-- src/fields.rt:129:1
+returns : tie.Need-returns
+returns c = 
+    c .tested .ensures
+    ∙ field-by _ _ _ _ _ (c .before .before .before .peek .ensures .0)
+    (c .before .wrong-clause .ensures ∙ ap (λ (left : ℕ). wrongClause left 1024 (c .before .before .before .before .before .args .sum) (c .before .before .before .peek .result)) (c .before .before .left-behind .ensures))
+
+pub take-clause-size-spec : {M : Type 1} → statement M
+take-clause-size-spec =
+    tie.close
+    (tie.spec peek-requires left-behind-requires wrong-clause-requires tested-requires returns)

@@ -1,0 +1,42 @@
+-- `book::fields::take_size` meets its contract: its value is the field's, and its fault the value's. Assumes nothing.
+use mathlib.Core.Path.{_∙_, ap}
+use Prim.Native.Nat.{ℕ}
+use Rattle.book.specs.WalkLaws.{field-by}
+use Rattle.book.specs.Faults.{wrongSize}
+use borrow.Author.Needs.{needs}
+use Rattle.book.proofs.fields.take_size.Statement.{statement}
+use Rattle.book.proofs.fields.take_size.Tie as tie
+use Rattle.book.proofs.fields.take_size.Reads as reads
+use Rattle.book.proofs.fields.take_size.Lts as lts
+use Rattle.book.proofs.faults.wrong_size.Reads as wrong-size-reads
+use Rattle.book.proofs.fields.left_behind.Reads as left-behind-reads
+use Rattle.book.proofs.fields.peek.Reads as peek-reads
+use Rattle.book.proofs.fields.tested.Reads as tested-reads
+
+-- src/fields.rt:123:9
+peek-requires : tie.Need-peek-requires
+peek-requires c κs = search needs
+
+-- src/fields.rt:124:9
+left-behind-requires : tie.Need-left-behind-requires
+left-behind-requires c κs = search needs
+
+-- src/fields.rt:125:26
+wrong-size-requires : tie.Need-wrong-size-requires
+wrong-size-requires c κs = search needs
+
+-- src/fields.rt:125:5
+tested-requires : tie.Need-tested-requires
+tested-requires c κs = search needs
+
+-- src/fields.rt:120:1
+returns : tie.Need-returns
+returns c = 
+    c .tested .ensures
+    ∙ field-by _ _ _ _ _ (c .before .before .before .peek .ensures .0)
+    (c .before .wrong-size .ensures ∙ ap (λ (left : ℕ). wrongSize left (c .before .before .before .peek .result)) (c .before .before .left-behind .ensures))
+
+pub take-size-spec : {M : Type 1} → statement M
+take-size-spec =
+    tie.close
+    (tie.spec peek-requires left-behind-requires wrong-size-requires tested-requires returns)
