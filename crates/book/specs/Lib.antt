@@ -5,6 +5,7 @@ pub mod WalkLaws
 pub mod Faults
 pub mod FaultLaws
 pub mod Loops
+pub mod LoopLaws
 pub mod Decode
 pub mod Spell
 pub mod StandsLaws

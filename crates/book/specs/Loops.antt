@@ -1,30 +1,35 @@
 -- Refusal 9: "an atom depends on each atom in the bodies of its clauses, negated or not, and so on through those".
--- `Depends` says it as a relation; `settled` tests it by rounds. That they say the same is `Looping`'s.
+-- `Depends` says it as a relation; `loopFree` tests it by rounds. That they say the same is `LoopLaws`'.
 -- Assumes nothing.
-use Prim.Native.Nat.{ℕ, zero, suc}
+use Prim.Native.Nat.{ℕ, zero, suc, _+_}
 use mathlib.Core.Path.{_≡_}
-use mathlib.Core.Bool.{Bool, true, false}
+use mathlib.Core.Bool.{Bool, true, false, not, _&&_}
 use mathlib.Core.List.{List, [], _∷_}
 use lib.Dec.{eqb}
-use Rattle.base.specs.Lists.{_∈_, all}
+use Rattle.base.specs.Lists.{_∈_, all, any}
 use Rattle.base.specs.Bools.{choose}
 use Rattle.book.specs.Book.{Lit, Clause, Book}
 
 pub data Depends (cs : List Clause) : ℕ → ℕ → Type 0 where
-  direct : {p : ℕ} {q : ℕ} (c : Clause) (l : Lit) → c ∈ cs → c .head ≡ p → l ∈ c .body → l .atom ≡ q → Depends cs p q
-  through : {p : ℕ} {q : ℕ} {r : ℕ} → Depends cs p q → Depends cs q r → Depends cs p r
+  direct : {p q : ℕ} (c : Clause) (l : Lit) → c ∈ cs → c .head ≡ p → l ∈ c .body → l .atom ≡ q → Depends cs p q
+  through : {p q r : ℕ} → Depends cs p q → Depends cs q r → Depends cs p r
 
--- In round n + 1 an atom is settled if every atom in the bodies of its clauses was settled in round n; in round 0 none is.
-unfoldable pub settled : List Clause → ℕ → ℕ → Bool
-settled cs zero p = false
-settled cs (suc n) p =
-    all (λ (c : Clause). choose (eqb (c .head) p) (all (λ (l : Lit). settled cs n (l .atom)) (c .body)) true) cs
+-- In round 0 every atom is pending; in round n + 1 an atom is pending if a body of its clauses has an atom that was pending
+-- in round n.
+unfoldable pub pending : List Clause → ℕ → ℕ → Bool
+pending cs zero p = true
+pending cs (suc n) p = any (λ (c : Clause). eqb (c .head) p && any (λ (l : Lit). pending cs n (l .atom)) (c .body)) cs
 
 -- the numbers below n
 unfoldable pub below : ℕ → List ℕ
 below zero = []
 below (suc n) = n ∷ below n
 
--- No loop: as many rounds as there are atoms settle every atom.
+-- No loop: after as many rounds as there are atoms, no atom is pending.
 unfoldable pub loopFree : Book → Bool
-loopFree b = all (settled (b .clauses) (b .atoms)) (below (b .atoms))
+loopFree b = all (λ (p : ℕ). not (pending (b .clauses) (b .atoms) p)) (below (b .atoms))
+
+-- An atom's rank: in how many of the first n rounds it is pending.
+unfoldable pub rank : List Clause → ℕ → ℕ → ℕ
+rank cs zero p = 0
+rank cs (suc n) p = choose (pending cs n p) 1 0 + rank cs n p
