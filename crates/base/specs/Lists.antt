@@ -10,7 +10,6 @@ use lib.ListN.{length}
 use Rattle.base.specs.Bools.{both, both-left, both-right, either, either-left, either-right, clash}
 
 infix 25 _∈_
-
 abbrev pub _∈_ {ℓ} : {A : Type ℓ} → A → List A → Type ℓ
 a ∈ l = List·Memᴰ a l
 

@@ -38,9 +38,12 @@ length-alternatives atoms (ls ∷ ways) h =
 
 length-constraint : (atoms : ℕ) (k : Constraint) → ConstraintFine atoms k → length (ofConstraint k) ≤ 2 + 2 * literalCount k
 length-constraint atoms k h =
-    omega
-    (arith, length-append (ofAlternative (k .conditions)) (flat ofAlternative (k .alternatives)), length-lits (k .conditions),
-    length-alternatives atoms (k .alternatives) (h .ways))
+    omega (
+      arith,
+      length-append (ofAlternative (k .conditions)) (flat ofAlternative (k .alternatives)),
+      length-lits (k .conditions),
+      length-alternatives atoms (k .alternatives) (h .ways),
+    )
 
 length-constraints : (atoms : ℕ) (ks : List Constraint) → Every (ConstraintFine atoms) ks
     → length (flat ofConstraint ks) ≤ 2 * length ks + 2 * sum literalCount ks
@@ -57,10 +60,14 @@ length-words b w =
     let bodies : sum bodyCount (b .clauses) ≤ 1024 = w .bodies in
     let constraints : length (b .constraints) ≤ 128 = w .constraints in
     let literals : sum literalCount (b .constraints) ≤ 1024 = w .literals in
-    omega
-    (arith, length-append (ofAlternative (b .goal)) (ofRules (b .clauses) (b .constraints)),
-    length-append (length (b .clauses) ∷ flat ofClause (b .clauses)) (length (b .constraints) ∷ flat ofConstraint (b .constraints)),
-    length-lits (b .goal), length-clauses (b .clauses), length-constraints (b .atoms) (b .constraints) (w .constraintsFine))
+    omega (
+      arith,
+      length-append (ofAlternative (b .goal)) (ofRules (b .clauses) (b .constraints)),
+      length-append (length (b .clauses) ∷ flat ofClause (b .clauses)) (length (b .constraints) ∷ flat ofConstraint (b .constraints)),
+      length-lits (b .goal),
+      length-clauses (b .clauses),
+      length-constraints (b .atoms) (b .constraints) (w .constraintsFine),
+    )
 
 abbrev Field : ℕ → Type 0
 Field x = x < 65536
@@ -152,7 +159,7 @@ encode-written b w free =
       stands = stands-two pre (words b) (words-small b w);
       over = omega arith;
       within = w;
-      free = free
+      free = free;
     }
 
 pub decode-encode : (b : Book) → Within limits b → loopFree b ≡ true → decode (encode b) ≡ accepted b

@@ -44,7 +44,7 @@ size-fine left x e =
     record {
       even = eqb-true (x % 2) 0 (unless-held (eqb (x % 2) 0) 4 (unless (leb 2 x) 4 (unless (leb x left) 4 fine)) e);
       some = leb-true 2 x (unless-held (leb 2 x) 4 (unless (leb x left) 4 fine) e₁);
-      fits = leb-true x left (unless-held (leb x left) 4 fine e₂)
+      fits = leb-true x left (unless-held (leb x left) 4 fine e₂);
     }
 
 pub fine-size : (left x : ℕ) → Sized left x → wrongSize left x ≡ fine
@@ -62,7 +62,7 @@ clause-fine left most sum x e =
     let rest : Finding = unless (leb (sum + bodyOf x) most) 5 fine in
     record {
       sized = size-fine left x (first-fine (wrongSize left x) rest e);
-      total = leb-true (sum + bodyOf x) most (unless-held (leb (sum + bodyOf x) most) 5 fine (next-fine (wrongSize left x) rest e))
+      total = leb-true (sum + bodyOf x) most (unless-held (leb (sum + bodyOf x) most) 5 fine (next-fine (wrongSize left x) rest e));
     }
 
 pub fine-clause : (left most sum x : ℕ) → ClauseSized left most sum x → wrongClause left most sum x ≡ fine
@@ -71,9 +71,10 @@ fine-clause left most sum x h = simp (fine-size left x (h .sized), le-leb _ _ (h
 
 pub atoms-fine : (most x : ℕ) → wrongAtoms most x ≡ fine → (1 ≤ x) × (x ≤ most)
 unfolding wrongAtoms
-atoms-fine most x e =
-    (leb-true 1 x (unless-held (leb 1 x) 5 (unless (leb x most) 5 fine) e),
-    leb-true x most (unless-held (leb x most) 5 fine (unless-next (leb 1 x) 5 (unless (leb x most) 5 fine) e)))
+atoms-fine most x e = (
+  leb-true 1 x (unless-held (leb 1 x) 5 (unless (leb x most) 5 fine) e),
+  leb-true x most (unless-held (leb x most) 5 fine (unless-next (leb 1 x) 5 (unless (leb x most) 5 fine) e)),
+)
 
 pub fine-atoms : (most x : ℕ) → (1 ≤ x) × (x ≤ most) → wrongAtoms most x ≡ fine
 unfolding wrongAtoms
@@ -81,9 +82,10 @@ fine-atoms most x h = simp (le-leb _ _ (h .0), le-leb _ _ (h .1))
 
 pub abducibles-fine : (most atoms x : ℕ) → wrongAbducibles most atoms x ≡ fine → (x ≤ most) × (x ≤ atoms)
 unfolding wrongAbducibles
-abducibles-fine most atoms x e =
-    (leb-true x most (unless-held (leb x most) 5 (unless (leb x atoms) 5 fine) e),
-    leb-true x atoms (unless-held (leb x atoms) 5 fine (unless-next (leb x most) 5 (unless (leb x atoms) 5 fine) e)))
+abducibles-fine most atoms x e = (
+  leb-true x most (unless-held (leb x most) 5 (unless (leb x atoms) 5 fine) e),
+  leb-true x atoms (unless-held (leb x atoms) 5 fine (unless-next (leb x most) 5 (unless (leb x atoms) 5 fine) e)),
+)
 
 pub fine-abducibles : (most atoms x : ℕ) → (x ≤ most) × (x ≤ atoms) → wrongAbducibles most atoms x ≡ fine
 unfolding wrongAbducibles
@@ -107,9 +109,10 @@ fine-lit atoms x h = simp (lt-ltb _ _ h)
 
 pub head-fine : (atoms abducibles x : ℕ) → wrongHead atoms abducibles x ≡ fine → (x < atoms) × (abducibles ≤ x)
 unfolding wrongHead
-head-fine atoms abducibles x e =
-    (ltb-true x atoms (unless-held (ltb x atoms) 6 (unless (leb abducibles x) 7 fine) e),
-    leb-true abducibles x (unless-held (leb abducibles x) 7 fine (unless-next (ltb x atoms) 6 (unless (leb abducibles x) 7 fine) e)))
+head-fine atoms abducibles x e = (
+  ltb-true x atoms (unless-held (ltb x atoms) 6 (unless (leb abducibles x) 7 fine) e),
+  leb-true abducibles x (unless-held (leb abducibles x) 7 fine (unless-next (ltb x atoms) 6 (unless (leb abducibles x) 7 fine) e)),
+)
 
 pub fine-head : (atoms abducibles x : ℕ) → (x < atoms) × (abducibles ≤ x) → wrongHead atoms abducibles x ≡ fine
 unfolding wrongHead
@@ -117,9 +120,10 @@ fine-head atoms abducibles x h = simp (lt-ltb _ _ (h .0), le-leb _ _ (h .1))
 
 pub conditions-fine : (left most sum x : ℕ) → wrongConditions left most sum x ≡ fine → (2 * x ≤ left) × (sum + x ≤ most)
 unfolding wrongConditions
-conditions-fine left most sum x e =
-    (leb-true (2 * x) left (unless-held (leb (2 * x) left) 4 (unless (leb (sum + x) most) 5 fine) e),
-    leb-true (sum + x) most (unless-held (leb (sum + x) most) 5 fine (unless-next (leb (2 * x) left) 4 (unless (leb (sum + x) most) 5 fine) e)))
+conditions-fine left most sum x e = (
+  leb-true (2 * x) left (unless-held (leb (2 * x) left) 4 (unless (leb (sum + x) most) 5 fine) e),
+  leb-true (sum + x) most (unless-held (leb (sum + x) most) 5 fine (unless-next (leb (2 * x) left) 4 (unless (leb (sum + x) most) 5 fine) e)),
+)
 
 pub fine-conditions : (left most sum x : ℕ) → (2 * x ≤ left) × (sum + x ≤ most) → wrongConditions left most sum x ≡ fine
 unfolding wrongConditions

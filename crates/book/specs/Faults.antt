@@ -25,7 +25,7 @@ limits =
       clauses = 512;
       bodies = 1024;
       constraints = 128;
-      literals = 1024
+      literals = 1024;
     }
 
 unfoldable pub wrongAtoms : ℕ → ℕ → Finding

@@ -1,5 +1,6 @@
 -- The rule book, in document 01's order: what a book is, its image's walk and faults, and the decoder.
 pub mod Book
+pub mod Sound
 pub mod Walk
 pub mod WalkLaws
 pub mod Faults
@@ -12,6 +13,8 @@ pub mod StandsLaws
 pub mod Reads
 pub mod Written
 pub mod Encode
+pub mod Shown
+pub mod Accepted
 pub mod Taking
 pub mod Pouring
 pub mod Seen

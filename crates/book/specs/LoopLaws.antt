@@ -25,9 +25,12 @@ module _ (cs : List Clause) where
   pub pending-more : (n : ℕ) (c : Clause) (l : Lit) → c ∈ cs → l ∈ c .body → pending cs n (l .atom) ≡ true → pending cs (suc n) (c .head) ≡ true
   unfolding pending
   pending-more n c l m k h =
-      some-any (keeps cs n (c .head)) cs
-      (c, m, both (eqb (c .head) (c .head)) (any (λ (l′ : Lit). pending cs n (l′ .atom)) (c .body)) (eq-eqb (c .head) (c .head) refl)
-      (some-any (λ (l′ : Lit). pending cs n (l′ .atom)) (c .body) (l, k, h)))
+      some-any (keeps cs n (c .head)) cs (
+        c,
+        m,
+        both (eqb (c .head) (c .head)) (any (λ (l′ : Lit). pending cs n (l′ .atom)) (c .body)) (eq-eqb (c .head) (c .head) refl)
+            (some-any (λ (l′ : Lit). pending cs n (l′ .atom)) (c .body) (l, k, h)),
+      )
 
   -- a pending atom has a clause with a pending atom in its body
   pub record Kept (n p : ℕ) : Type 0 where
@@ -50,7 +53,7 @@ module _ (cs : List Clause) where
         among = f .1;
         heads = eqb-true (f .0 .head) p (both-left (eqb (f .0 .head) p) body (f .2));
         within = g .1;
-        holds = g .2
+        holds = g .2;
       }
 
   -- what is pending was so in the round before
@@ -156,13 +159,14 @@ lower n (a ∷ l) (more out d) h =
           rest = l;
           distinct = d;
           small =
-            λ b m.
-            let up : b < suc n = h b (there m) in
-            let apart : b ≡ n → ⊥ = λ q. out (subst (λ (k : ℕ). k ∈ l) (q ∙ sym e) m) in
-            omega arith;
+              λ b m.
+              let up : b < suc n = h b (there m) in
+              let apart : b ≡ n → ⊥ = λ q. out (subst (λ (k : ℕ). k ∈ l) (q ∙ sym e) m) in
+              omega arith;
           inside = λ b m. there m;
-          count = omega arith
+          count = omega arith;
         }
+
     other : (a ≡ n → ⊥) → Lower n l → Lower n (a ∷ l)
     other e r =
         let up : a < suc n = h a here in
@@ -171,7 +175,7 @@ lower n (a ∷ l) (more out d) h =
           distinct = more (λ m. out (r .inside a m)) (r .distinct);
           small = every-more (omega arith) (r .small);
           inside = λ b m. ⊎-elim (λ (q : b ≡ a). subst (λ (k : ℕ). k ∈ a ∷ l) (sym q) here) (λ k. there (r .inside b k)) (List·Memᴰ·cases-cons m);
-          count = let c : length l ≤ suc (length (r .rest)) = r .count in omega arith
+          count = let c : length l ≤ suc (length (r .rest)) = r .count in omega arith;
         }
 
 distinct-few : (n : ℕ) (l : List ℕ) → Distinct l → Every (λ (a : ℕ). a < n) l → length l ≤ n
@@ -218,7 +222,7 @@ pending-long cs bound small (suc n) p h e =
       rest = q ∷ r .rest;
       chain = link (direct (k .clause) (k .lit) (k .among) (k .heads) (k .within) refl) (r .chain);
       count = ap suc (r .count);
-      small = every-more h (r .small)
+      small = every-more h (r .small);
     }
 
 -- ---- the test and the relation say the same
@@ -249,7 +253,7 @@ pub free-ranks : (b : Book) → Closed b → loopFree b ≡ true → Ranks (b .c
 unfolding rank
 free-ranks b closed free c m l k =
     let h : rank (b .clauses) (b .atoms) (l .atom) < choose (pending (b .clauses) (b .atoms) (c .head)) 1 0 + rank (b .clauses) (b .atoms) (c .head) =
-        rank-falls (b .clauses) (b .atoms) c l m k in
+    rank-falls (b .clauses) (b .atoms) c l m k in
     let quiet : _≡_ {A = ℕ} (choose (pending (b .clauses) (b .atoms) (c .head)) 1 0) 0 =
-        ap (λ (t : Bool). choose t 1 0) (free-quiet b free (c .head) (closed .heads c m)) in
+    ap (λ (t : Bool). choose t 1 0) (free-quiet b free (c .head) (closed .heads c m)) in
     omega arith

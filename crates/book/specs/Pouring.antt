@@ -15,6 +15,7 @@ seen-found f (found x at) y next e = (x, at-next, value)
   where
     at-next : found x at ≡ found x next
     at-next = let q : at ≡ next = cc in ap (found x) q
+
     value : f x ≡ y
     value = cc
 seen-found f (fault n at) y next e = absurd (never e)

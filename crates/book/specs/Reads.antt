@@ -77,20 +77,21 @@ reads-literal s atoms = record { finds = finds; reads = reads }
         record {
           stands = more (h .there) (h .value ∙ sym (lit-out (f .0)) ∙ ap ofLit is) none;
           isFine = subst (Named atoms) is (lit-fine atoms (f .0) (h .isFine));
-          behind = omega arith
+          behind = omega arith;
         }
+
     reads : (at : ℕ) (l : Lit) (next : ℕ) → Read s one (Named atoms) at l next → after (field s (wrongLit atoms) at) (λ x. give (litOf x)) ≡ found l next
     reads at l next r =
         let half : ofLit l / 2 ≡ l .atom = lit-half (l .atom) (l .sign) in
         let small : l .atom < atoms = r .isFine in
         let e : field s (wrongLit atoms) at ≡ found (ofLit l) next =
-            fielded s (wrongLit atoms) at (ofLit l) next
-            (record {
-              there = stands-there (r .stands);
-              value = stands-value (r .stands);
-              isFine = fine-lit atoms (ofLit l) (omega arith);
-              behind = omega arith
-            }) in
+        fielded s (wrongLit atoms) at (ofLit l) next
+        (record {
+          there = stands-there (r .stands);
+          value = stands-value (r .stands);
+          isFine = fine-lit atoms (ofLit l) (omega arith);
+          behind = omega arith;
+        }) in
         ap (λ (st : Step ℕ). after st (λ x. give (litOf x))) e ∙ ap (λ (m : Lit). found m next) (lit-in l)
 
 -- ---- a running list
@@ -143,7 +144,7 @@ module _ {A : Type 0} (s : List ℕ) (w : ℕ → Walk A) (weight : A → ℕ) (
       (record {
         stands = stands-join (h .stands) (stands-at b₁ (k .stands));
         isFine = then (h .isFine) (k .isFine);
-        behind = omega (arith, length-append (spell (f .0)) (flat spell (g .0)))
+        behind = omega (arith, length-append (spell (f .0)) (flat spell (g .0)));
       })
 
   running-reads : (n total at : ℕ) (xs : List A) (next : ℕ) → Read s (flat spell) (Ran Fine weight n total) at xs next
@@ -157,9 +158,9 @@ module _ {A : Type 0} (s : List ℕ) (w : ℕ → Walk A) (weight : A → ℕ) (
       go n total at xs next h (then {n = m} {x = x} {xs = ys} k r) b =
           let mid : ℕ = at + 2 * length (spell x) in
           let e₁ : w total at ≡ found x mid =
-              one total .reads at x mid (record { stands = stands-left (spell x) (flat spell ys) h; isFine = k; behind = refl }) in
+          one total .reads at x mid (record { stands = stands-left (spell x) (flat spell ys) h; isFine = k; behind = refl }) in
           let e₂ : running w weight m (total + weight x) mid ≡ found ys next =
-              go m (total + weight x) mid ys next (stands-right (spell x) h) r (omega (arith, length-append (spell x) (flat spell ys))) in
+          go m (total + weight x) mid ys next (stands-right (spell x) h) r (omega (arith, length-append (spell x) (flat spell ys))) in
           ap (λ (st : Step A). after st (λ z at′. after (running w weight m (total + weight z) at′) (λ zs. give (z ∷ zs)))) e₁
           ∙ ap (λ (st : Step (List A)). after st (λ zs. give (x ∷ zs))) e₂
 
@@ -185,23 +186,25 @@ reads-literals s atoms n = record { finds = finds; reads = reads }
   where
     run : Reads s (times (literal s atoms) n) (flat one) (Ran (λ _. Named atoms) (λ _. 1) n 0)
     run = reads-running s (λ _. literal s atoms) (λ _. 1) one (λ _. Named atoms) (λ _. reads-literal s atoms) n 0
+
     finds : (at : ℕ) (ls : List Lit) (next : ℕ) → times (literal s atoms) n at ≡ found ls next → Read s ofLits (Literals atoms n) at ls next
     finds at ls next e =
         let r = run .finds at ls next e in
         record {
           stands = subst (Stands s at) (flat-one ls) (r .stands);
           isFine = record { count = ran-length (r .isFine); named = ran-every (λ t x h. h) (r .isFine) };
-          behind = r .behind ∙ ap (λ (xs : List ℕ). at + 2 * length xs) (flat-one ls)
+          behind = r .behind ∙ ap (λ (xs : List ℕ). at + 2 * length xs) (flat-one ls);
         }
+
     reads : (at : ℕ) (ls : List Lit) (next : ℕ) → Read s ofLits (Literals atoms n) at ls next → times (literal s atoms) n at ≡ found ls next
     reads at ls next r =
         run .reads at ls next
         (record {
           stands = subst (Stands s at) (sym (flat-one ls)) (r .stands);
           isFine =
-            subst (λ (k : ℕ). Ran (λ _. Named atoms) (λ _. 1) k 0 ls) (r .isFine .count)
-            (every-ran (λ _. Named atoms) (λ _. 1) (Named atoms) (sum (λ _. 1) ls) (λ t x h b. h) 0 ls (r .isFine .named) (omega arith));
-          behind = r .behind ∙ ap (λ (xs : List ℕ). at + 2 * length xs) (sym (flat-one ls))
+              subst (λ (k : ℕ). Ran (λ _. Named atoms) (λ _. 1) k 0 ls) (r .isFine .count)
+              (every-ran (λ _. Named atoms) (λ _. 1) (Named atoms) (sum (λ _. 1) ls) (λ t x h b. h) 0 ls (r .isFine .named) (omega arith));
+          behind = r .behind ∙ ap (λ (xs : List ℕ). at + 2 * length xs) (sym (flat-one ls));
         })
 
 -- ---- a clause
@@ -224,12 +227,16 @@ reads-clause s most atoms abducibles total = record { finds = finds; reads = rea
   where
     sizes : ℕ → ℕ → Finding
     sizes at = wrongClause (length s - (at + 2)) (most .bodies) total
+
     made : ℕ → List Lit → Walk Clause
     made h ls = give (record { head = h; body = ls })
+
     fromBody : ℕ → ℕ → Walk Clause
     fromBody size h at = after (times (literal s atoms) (bodyOf size) at) (made h)
+
     fromHead : ℕ → Walk Clause
     fromHead size at = after (field s (wrongHead atoms abducibles) at) (fromBody size)
+
     finds : (at : ℕ) (c : Clause) (next : ℕ) → after (field s (sizes at) at) fromHead ≡ found c next
         → Read s ofClause (ClauseFits (most .bodies) atoms abducibles total) at c next
     finds at c next e =
@@ -254,11 +261,12 @@ reads-clause s most atoms abducibles total = record { finds = finds; reads = rea
         subst (λ (d : Clause). Read s ofClause (ClauseFits (most .bodies) atoms abducibles total) at d next) is
         (record {
           stands =
-            more (sizeAt .there) (sizeAt .value ∙ omega arith)
-            (stands-at b₁ (more (headAt .there) (headAt .value) (stands-at b₂ (bodyAt .stands))));
+              more (sizeAt .there) (sizeAt .value ∙ omega arith)
+              (stands-at b₁ (more (headAt .there) (headAt .value) (stands-at b₂ (bodyAt .stands))));
           isFine = record { isFine = record { known = headed .0; defined = headed .1; named = bodyAt .isFine .named }; fits = omega arith };
-          behind = omega arith
+          behind = omega arith;
         })
+
     reads : (at : ℕ) (c : Clause) (next : ℕ) → Read s ofClause (ClauseFits (most .bodies) atoms abducibles total) at c next
         → after (field s (sizes at) at) fromHead ≡ found c next
     reads at c next r =
@@ -269,27 +277,27 @@ reads-clause s most atoms abducibles total = record { finds = finds; reads = rea
         let fits : total + length (c .body) ≤ most .bodies = r .isFine .fits in
         let rest = stands-rest (r .stands) in
         let e₁ : field s (sizes at) at ≡ found size (at + 2) =
-            fielded s (sizes at) at size (at + 2)
-            (record {
-              there = stands-there (r .stands);
-              value = stands-value (r .stands);
-              isFine =
-                fine-clause (length s - (at + 2)) (most .bodies) total size
-                (record { sized = record { even = omega arith; some = omega arith; fits = omega arith }; total = omega arith });
-              behind = refl
-            }) in
+        fielded s (sizes at) at size (at + 2)
+        (record {
+          there = stands-there (r .stands);
+          value = stands-value (r .stands);
+          isFine =
+              fine-clause (length s - (at + 2)) (most .bodies) total size
+              (record { sized = record { even = omega arith; some = omega arith; fits = omega arith }; total = omega arith });
+          behind = refl;
+        }) in
         let e₂ : field s (wrongHead atoms abducibles) (at + 2) ≡ found (c .head) (at + 2 + 2) =
-            fielded s (wrongHead atoms abducibles) (at + 2) (c .head) (at + 2 + 2)
-            (record {
-              there = stands-there rest;
-              value = stands-value rest;
-              isFine = fine-head atoms abducibles (c .head) (r .isFine .isFine .known, r .isFine .isFine .defined);
-              behind = refl
-            }) in
+        fielded s (wrongHead atoms abducibles) (at + 2) (c .head) (at + 2 + 2)
+        (record {
+          there = stands-there rest;
+          value = stands-value rest;
+          isFine = fine-head atoms abducibles (c .head) (r .isFine .isFine .known, r .isFine .isFine .defined);
+          behind = refl;
+        }) in
         let behind : next ≡ at + 2 * length (ofClause c) = r .behind in
         let e₃ : times (literal s atoms) (bodyOf size) (at + 2 + 2) ≡ found (c .body) next =
-            reads-literals s atoms (bodyOf size) .reads (at + 2 + 2) (c .body) next
-            (record { stands = stands-rest rest; isFine = record { count = sym body; named = r .isFine .isFine .named }; behind = omega arith }) in
+        reads-literals s atoms (bodyOf size) .reads (at + 2 + 2) (c .body) next
+        (record { stands = stands-rest rest; isFine = record { count = sym body; named = r .isFine .isFine .named }; behind = omega arith }) in
         ap (λ (st : Step ℕ). after st fromHead) e₁
         ∙ ap (λ (st : Step ℕ). after st (fromBody size)) e₂
         ∙ ap (λ (st : Step (List Lit)). after st (made (c .head))) e₃
@@ -332,7 +340,7 @@ module _ (s : List ℕ) (most : Limits) (atoms end : ℕ) where
         isFine = record { some = omega arith; named = litsAt .isFine .named };
         fits = omega arith;
         behind = omega arith;
-        within = omega arith
+        within = omega arith;
       }
 
   alternative-reads : (total at : ℕ) (ls : List Lit) (next : ℕ) → Alternative total at ls next → alternative s most atoms end total at ≡ found ls next
@@ -344,13 +352,13 @@ module _ (s : List ℕ) (most : Limits) (atoms end : ℕ) where
       let h₂ : total + length ls ≤ most .literals = r .fits in
       let b : next ≡ at + 2 * length (ofAlternative ls) = r .behind in
       let e₁ : field s (counts total at) at ≡ found (length ls) (at + 2) =
-          fielded s (counts total at) at (length ls) (at + 2)
-          (record {
-            there = stands-there (r .stands);
-            value = stands-value (r .stands);
-            isFine = fine-alternative (end - (at + 2)) (most .literals) total (length ls) (omega arith);
-            behind = refl
-          }) in
+      fielded s (counts total at) at (length ls) (at + 2)
+      (record {
+        there = stands-there (r .stands);
+        value = stands-value (r .stands);
+        isFine = fine-alternative (end - (at + 2)) (most .literals) total (length ls) (omega arith);
+        behind = refl;
+      }) in
       ap (λ (st : Step ℕ). after st (λ n. times (literal s atoms) n)) e₁
       ∙ reads-literals s atoms (length ls) .reads (at + 2) ls next
       (record { stands = stands-rest (r .stands); isFine = record { count = refl; named = r .isFine .named }; behind = omega arith })
@@ -373,6 +381,7 @@ module _ (s : List ℕ) (most : Limits) (atoms end : ℕ) where
     where
       rest : List Lit → Walk (List (List Lit))
       rest ls at′ = after (alternatives s most atoms end n (total + length ls) at′) (λ ways′. give (ls ∷ ways′))
+
       go : (b : Bool) → ltb at end ≡ b → choose b (after (alternative s most atoms end total at) rest) (found [] at) ≡ found ways next
           → ((m at′ : ℕ) (ways′ : List (List Lit)) (next′ : ℕ) → alternatives s most atoms end n m at′ ≡ found ways′ next′
           → at′ ≤ end → end ≤ at′ + 2 * n → m ≤ most .literals → Alternatives m at′ ways′ × (next′ ≡ end))
@@ -394,13 +403,15 @@ module _ (s : List ℕ) (most : Limits) (atoms end : ℕ) where
           let t₂ : total + length (f .0) + sum length (g .0) ≤ most .literals = more′ .0 .fits in
           let is : f .0 ∷ g .0 ≡ ways = cc (g .3) in
           let on : g .1 ≡ next = cc (g .3) in
-          subst (λ (xs : List (List Lit)). Alternatives total at xs × (next ≡ end)) is
-          (record {
-            stands = stands-join (first .stands) (stands-at b₁ (more′ .0 .stands));
-            isFine = every-more (first .isFine) (more′ .0 .isFine);
-            fits = omega arith;
-            ends = omega (arith, length-append (ofAlternative (f .0)) (flat ofAlternative (g .0)))
-          }, sym on ∙ more′ .1)
+          subst (λ (xs : List (List Lit)). Alternatives total at xs × (next ≡ end)) is (
+            record {
+              stands = stands-join (first .stands) (stands-at b₁ (more′ .0 .stands));
+              isFine = every-more (first .isFine) (more′ .0 .isFine);
+              fits = omega arith;
+              ends = omega (arith, length-append (ofAlternative (f .0)) (flat ofAlternative (g .0)));
+            },
+            sym on ∙ more′ .1,
+          )
 
   alternatives-reads : (n total at : ℕ) (ways : List (List Lit)) → Alternatives total at ways → length (flat ofAlternative ways) ≤ n
       → alternatives s most atoms end n total at ≡ found ways end
@@ -417,23 +428,23 @@ module _ (s : List ℕ) (most : Limits) (atoms end : ℕ) where
       let t : total + (length ls + sum length ways) ≤ most .literals = r .fits in
       let mid : ℕ = at + 2 * length (ofAlternative ls) in
       let e₁ : alternative s most atoms end total at ≡ found ls mid =
-          alternative-reads total at ls mid
-          (record {
-            stands = stands-left (ofAlternative ls) (flat ofAlternative ways) (r .stands);
-            isFine = every-first (r .isFine);
-            fits = omega arith;
-            behind = refl;
-            within = omega arith
-          }) in
+      alternative-reads total at ls mid
+      (record {
+        stands = stands-left (ofAlternative ls) (flat ofAlternative ways) (r .stands);
+        isFine = every-first (r .isFine);
+        fits = omega arith;
+        behind = refl;
+        within = omega arith;
+      }) in
       let e₂ : alternatives s most atoms end n (total + length ls) mid ≡ found ways end =
-          alternatives-reads n (total + length ls) mid ways
-          (record {
-            stands = stands-right (ofAlternative ls) (r .stands);
-            isFine = every-rest (r .isFine);
-            fits = omega arith;
-            ends = omega arith
-          })
-          (omega arith) in
+      alternatives-reads n (total + length ls) mid ways
+      (record {
+        stands = stands-right (ofAlternative ls) (r .stands);
+        isFine = every-rest (r .isFine);
+        fits = omega arith;
+        ends = omega arith;
+      })
+      (omega arith) in
       choose-true _ _ (lt-ltb at end (omega arith))
       ∙ ap (λ (st : Step (List Lit)). after st (λ z at′. after (alternatives s most atoms end n (total + length z) at′) (λ zs. give (z ∷ zs)))) e₁
       ∙ ap (λ (st : Step (List (List Lit))). after st (λ zs. give (ls ∷ zs))) e₂
@@ -457,23 +468,28 @@ reads-constraint s most atoms total = record { finds = finds; reads = reads }
   where
     sizes : ℕ → ℕ → Finding
     sizes at = wrongSize (length s - (at + 2))
+
     counts : ℕ → ℕ → ℕ → Finding
     counts size at = wrongConditions (at + size - (at + 2)) (most .literals) total
+
     made : List Lit → List (List Lit) → Walk Constraint
     made ls ways = give (record { conditions = ls; alternatives = ways })
+
     fromLits : ℕ → ℕ → ℕ → Walk Constraint
     fromLits size end count at =
         after (times (literal s atoms) count at) (λ ls at′. after (alternatives s most atoms end (size / 2) (total + count) at′) (made ls))
+
     fromCount : ℕ → Walk Constraint
     fromCount size at = after (field s (counts size at) at) (fromLits size (at + size))
+
     finds : (at : ℕ) (k : Constraint) (next : ℕ) → after (field s (sizes at) at) fromCount ≡ found k next
         → Read s ofConstraint (ConstraintFits (most .literals) atoms total) at k next
     finds at k next e =
         let f = after-found (field s (sizes at) at) fromCount k next e in
         let g = after-found (field s (counts (f .0) (f .1)) (f .1)) (fromLits (f .0) (f .1 + f .0)) k next (f .3) in
         let h =
-            after-found (times (literal s atoms) (g .0) (g .1))
-            (λ ls at′. after (alternatives s most atoms (f .1 + f .0) (f .0 / 2) (total + g .0) at′) (made ls)) k next (g .3) in
+        after-found (times (literal s atoms) (g .0) (g .1))
+        (λ ls at′. after (alternatives s most atoms (f .1 + f .0) (f .0 / 2) (total + g .0) at′) (made ls)) k next (g .3) in
         let j = after-found (alternatives s most atoms (f .1 + f .0) (f .0 / 2) (total + g .0) (h .1)) (made (h .0)) k next (h .3) in
         let sizeAt = field-found s (sizes at) at (f .0) (f .1) (f .2) in
         let countAt = field-found s (counts (f .0) (f .1)) (f .1) (g .0) (g .1) (g .2) in
@@ -490,7 +506,7 @@ reads-constraint s most atoms total = record { finds = finds; reads = reads }
         let b₂ : g .1 ≡ f .1 + 2 = countAt .behind in
         let b₃ : h .1 ≡ g .1 + 2 * length (ofLits (h .0)) = litsAt .behind in
         let waysAt =
-            alternatives-finds s most atoms (f .1 + f .0) (f .0 / 2) (total + g .0) (h .1) (j .0) (j .1) (j .2) (omega arith) (omega arith) c₂ in
+        alternatives-finds s most atoms (f .1 + f .0) (f .0 / 2) (total + g .0) (h .1) (j .0) (j .1) (j .2) (omega arith) (omega arith) c₂ in
         let b₄ : f .1 + f .0 ≡ h .1 + 2 * length (flat ofAlternative (j .0)) = waysAt .0 .ends in
         let t : total + g .0 + sum length (j .0) ≤ most .literals = waysAt .0 .fits in
         let over : j .1 ≡ f .1 + f .0 = waysAt .1 in
@@ -500,13 +516,14 @@ reads-constraint s most atoms total = record { finds = finds; reads = reads }
         subst (λ (k′ : Constraint). Read s ofConstraint (ConstraintFits (most .literals) atoms total) at k′ next) is
         (record {
           stands =
-            more (sizeAt .there) (sizeAt .value ∙ omega arith)
-            (stands-join {xs = ofAlternative (h .0)}
-            (stands-at b₁ (more (countAt .there) (countAt .value ∙ sym n) (stands-at b₂ (litsAt .stands))))
-            (stands-at (omega arith) (waysAt .0 .stands)));
+              more (sizeAt .there) (sizeAt .value ∙ omega arith)
+              (stands-join {xs = ofAlternative (h .0)}
+              (stands-at b₁ (more (countAt .there) (countAt .value ∙ sym n) (stands-at b₂ (litsAt .stands))))
+              (stands-at (omega arith) (waysAt .0 .stands)));
           isFine = record { isFine = record { named = litsAt .isFine .named; ways = waysAt .0 .isFine }; fits = omega arith };
-          behind = omega arith
+          behind = omega arith;
         })
+
     reads : (at : ℕ) (k : Constraint) (next : ℕ) → Read s ofConstraint (ConstraintFits (most .literals) atoms total) at k next
         → after (field s (sizes at) at) fromCount ≡ found k next
     reads at k next r =
@@ -523,33 +540,33 @@ reads-constraint s most atoms total = record { finds = finds; reads = reads }
         let front : Stands s (at + 2) (ofAlternative ls) = stands-left (ofAlternative ls) (flat ofAlternative ways) rest in
         let mid : ℕ = at + 2 + 2 * length (ofAlternative ls) in
         let e₁ : field s (sizes at) at ≡ found size (at + 2) =
-            fielded s (sizes at) at size (at + 2)
-            (record {
-              there = stands-there (r .stands);
-              value = stands-value (r .stands);
-              isFine = fine-size (length s - (at + 2)) size (record { even = omega arith; some = omega arith; fits = omega arith });
-              behind = refl
-            }) in
+        fielded s (sizes at) at size (at + 2)
+        (record {
+          there = stands-there (r .stands);
+          value = stands-value (r .stands);
+          isFine = fine-size (length s - (at + 2)) size (record { even = omega arith; some = omega arith; fits = omega arith });
+          behind = refl;
+        }) in
         let e₂ : field s (counts size (at + 2)) (at + 2) ≡ found (length ls) (at + 2 + 2) =
-            fielded s (counts size (at + 2)) (at + 2) (length ls) (at + 2 + 2)
-            (record {
-              there = stands-there front;
-              value = stands-value front;
-              isFine = fine-conditions (at + 2 + size - (at + 2 + 2)) (most .literals) total (length ls) (omega arith);
-              behind = refl
-            }) in
+        fielded s (counts size (at + 2)) (at + 2) (length ls) (at + 2 + 2)
+        (record {
+          there = stands-there front;
+          value = stands-value front;
+          isFine = fine-conditions (at + 2 + size - (at + 2 + 2)) (most .literals) total (length ls) (omega arith);
+          behind = refl;
+        }) in
         let e₃ : times (literal s atoms) (length ls) (at + 2 + 2) ≡ found ls mid =
-            reads-literals s atoms (length ls) .reads (at + 2 + 2) ls mid
-            (record { stands = stands-rest front; isFine = record { count = refl; named = r .isFine .isFine .named }; behind = omega arith }) in
+        reads-literals s atoms (length ls) .reads (at + 2 + 2) ls mid
+        (record { stands = stands-rest front; isFine = record { count = refl; named = r .isFine .isFine .named }; behind = omega arith }) in
         let e₄ : alternatives s most atoms (at + 2 + size) (size / 2) (total + length ls) mid ≡ found ways (at + 2 + size) =
-            alternatives-reads s most atoms (at + 2 + size) (size / 2) (total + length ls) mid ways
-            (record {
-              stands = stands-right (ofAlternative ls) rest;
-              isFine = r .isFine .isFine .ways;
-              fits = omega arith;
-              ends = omega arith
-            })
-            (omega arith) in
+        alternatives-reads s most atoms (at + 2 + size) (size / 2) (total + length ls) mid ways
+        (record {
+          stands = stands-right (ofAlternative ls) rest;
+          isFine = r .isFine .isFine .ways;
+          fits = omega arith;
+          ends = omega arith;
+        })
+        (omega arith) in
         let on : at + 2 + size ≡ next = omega arith in
         ap (λ (st : Step ℕ). after st fromCount) e₁
         ∙ ap (λ (st : Step ℕ). after st (fromLits size (at + 2 + size))) e₂

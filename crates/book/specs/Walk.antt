@@ -16,7 +16,6 @@ abbrev pub Walk : Type 0 → Type 0
 Walk A = ℕ → Step A
 
 infixl 10 _>>=_ _>>_
-
 abbrev pub after : {A B : Type 0} → Step A → (A → Walk B) → Step B
 after (found x at) k = k x at
 after (fault n at) k = fault n at

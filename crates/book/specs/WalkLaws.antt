@@ -59,9 +59,10 @@ field-found s faults at x next e = go (leb (at + 2) (length s)) refl
           there = leb-true (at + 2) (length s) t;
           value = v ∙ same;
           isFine = ap faults (sym same) ∙ q;
-          behind = cc
+          behind = cc;
         }
     of (wrong n) y t q v j = absurd (never j)
+
     go : (t : Bool) → leb (at + 2) (length s) ≡ t → Fielded s faults at x next
     go true t = of (faults (fieldAt s at)) (fieldAt s at) t refl refl (sym (field-there s faults at t) ∙ e)
     go false t = absurd (never (sym (field-missing s faults at t) ∙ e))

@@ -68,20 +68,21 @@ reads-counted {A} s most w spell Fine things = record { finds = finds; reads = r
         record {
           stands = more (countAt .there) (countAt .value ∙ sym n) (stands-at b₁ (thingsAt .stands));
           isFine = record { few = omega arith; isFine = thingsAt .isFine .isFine };
-          behind = omega arith
+          behind = omega arith;
         }
+
     reads : (at : ℕ) (xs : List A) (next : ℕ) → Read s (λ ys. length ys ∷ spell ys) (Counted most Fine) at xs next
         → after (field s (wrongCount most) at) (λ n. w n) ≡ found xs next
     reads at xs next r =
         let b : next ≡ at + 2 * length (length xs ∷ spell xs) = r .behind in
         let e₁ : field s (wrongCount most) at ≡ found (length xs) (at + 2) =
-            fielded s (wrongCount most) at (length xs) (at + 2)
-            (record {
-              there = stands-there (r .stands);
-              value = stands-value (r .stands);
-              isFine = fine-count most (length xs) (r .isFine .few);
-              behind = refl
-            }) in
+        fielded s (wrongCount most) at (length xs) (at + 2)
+        (record {
+          there = stands-there (r .stands);
+          value = stands-value (r .stands);
+          isFine = fine-count most (length xs) (r .isFine .few);
+          behind = refl;
+        }) in
         ap (λ (st : Step ℕ). after st (λ n. w n)) e₁
         ∙ things (length xs) .reads (at + 2) xs next
         (record { stands = stands-rest (r .stands); isFine = record { count = refl; isFine = r .isFine .isFine }; behind = omega arith })
@@ -102,6 +103,7 @@ reads-lot {A} s w weight spell P most Fine fine→P fine→fits P→fine one n =
   where
     run : Reads s (running w weight n 0) (flat spell) (Ran Fine weight n 0)
     run = reads-running s w weight spell Fine one n 0
+
     finds : (at : ℕ) (xs : List A) (next : ℕ) → running w weight n 0 at ≡ found xs next → Read s (flat spell) (AsMany (Lot P weight most) n) at xs next
     finds at xs next e =
         let r = run .finds at xs next e in
@@ -109,8 +111,9 @@ reads-lot {A} s w weight spell P most Fine fine→P fine→fits P→fine one n =
         record {
           stands = r .stands;
           isFine = record { count = ran-length (r .isFine); isFine = record { each = ran-every fine→P (r .isFine); total = omega arith } };
-          behind = r .behind
+          behind = r .behind;
         }
+
     reads : (at : ℕ) (xs : List A) (next : ℕ) → Read s (flat spell) (AsMany (Lot P weight most) n) at xs next → running w weight n 0 at ≡ found xs next
     reads at xs next r =
         let t : sum weight xs ≤ most = r .isFine .isFine .total in
@@ -118,9 +121,9 @@ reads-lot {A} s w weight spell P most Fine fine→P fine→fits P→fine one n =
         (record {
           stands = r .stands;
           isFine =
-            subst (λ (k : ℕ). Ran Fine weight k 0 xs) (r .isFine .count)
-            (every-ran Fine weight P most P→fine 0 xs (r .isFine .isFine .each) (omega arith));
-          behind = r .behind
+              subst (λ (k : ℕ). Ran Fine weight k 0 xs) (r .isFine .count)
+              (every-ran Fine weight P most P→fine 0 xs (r .isFine .isFine .each) (omega arith));
+          behind = r .behind;
         })
 
 reads-clauses : (s : List ℕ) (most : Limits) (atoms abducibles : ℕ)
@@ -150,6 +153,7 @@ reads-goal s most atoms =
     finds n at ls next e =
         let r = reads-literals s atoms n .finds at ls next e in
         record { stands = r .stands; isFine = record { count = r .isFine .count; isFine = r .isFine .named }; behind = r .behind }
+
     reads : (n at : ℕ) (ls : List Lit) (next : ℕ) → Read s ofLits (AsMany (Every (Named atoms)) n) at ls next → times (literal s atoms) n at ≡ found ls next
     reads n at ls next r =
         reads-literals s atoms n .reads at ls next
@@ -171,10 +175,13 @@ reads-rules s most atoms abducibles = record { finds = finds; reads = reads }
   where
     cs : Walk (List Clause)
     cs = counted s (most .clauses) (λ n. running (clause s most atoms abducibles) bodyCount n 0)
+
     ks : Walk (List Constraint)
     ks = counted s (most .constraints) (λ n. running (constraint s most atoms) literalCount n 0)
+
     from : List Clause → Walk Rules
     from x at = after (ks at) (λ y. give (x, y))
+
     finds : (at : ℕ) (r : Rules) (next : ℕ) → after (cs at) from ≡ found r next → Read s spelled (RulesFine most atoms abducibles) at r next
     finds at r next e =
         let f = after-found (cs at) from r next e in
@@ -189,20 +196,21 @@ reads-rules s most atoms abducibles = record { finds = finds; reads = reads }
         (record {
           stands = stands-join (csAt .stands) (stands-at b₁ (ksAt .stands));
           isFine = record { clauses = csAt .isFine; constraints = ksAt .isFine };
-          behind = omega (arith, length-append (length (f .0) ∷ flat ofClause (f .0)) (length (g .0) ∷ flat ofConstraint (g .0)))
+          behind = omega (arith, length-append (length (f .0) ∷ flat ofClause (f .0)) (length (g .0) ∷ flat ofConstraint (g .0)));
         })
+
     reads : (at : ℕ) (r : Rules) (next : ℕ) → Read s spelled (RulesFine most atoms abducibles) at r next → after (cs at) from ≡ found r next
     reads at r next h =
         let front : List ℕ = length (r .0) ∷ flat ofClause (r .0) in
         let back : List ℕ = length (r .1) ∷ flat ofConstraint (r .1) in
         let mid : ℕ = at + 2 * length front in
         let e₁ : cs at ≡ found (r .0) mid =
-            reads-clauses s most atoms abducibles .reads at (r .0) mid
-            (record { stands = stands-left front back (h .stands); isFine = h .isFine .clauses; behind = refl }) in
+        reads-clauses s most atoms abducibles .reads at (r .0) mid
+        (record { stands = stands-left front back (h .stands); isFine = h .isFine .clauses; behind = refl }) in
         let b : next ≡ at + 2 * length (front ++ back) = h .behind in
         let e₂ : ks mid ≡ found (r .1) next =
-            reads-constraints s most atoms .reads mid (r .1) next
-            (record { stands = stands-right front (h .stands); isFine = h .isFine .constraints; behind = omega (arith, length-append front back) }) in
+        reads-constraints s most atoms .reads mid (r .1) next
+        (record { stands = stands-right front (h .stands); isFine = h .isFine .constraints; behind = omega (arith, length-append front back) }) in
         ap (λ (st : Step (List Clause)). after st from) e₁ ∙ ap (λ (st : Step (List Constraint)). after st (λ y. give (r .0, y))) e₂
 
 abbrev make : ℕ → ℕ → List Lit → Rules → Book
@@ -214,12 +222,16 @@ reads-book s most = record { finds = finds; reads = reads }
   where
     goals : ℕ → Walk (List Lit)
     goals a = counted s (most .goal) (times (literal s a))
+
     fromRules : ℕ → ℕ → List Lit → Walk Book
     fromRules a b g at = after (rules s most a b at) (λ r. give (make a b g r))
+
     fromGoal : ℕ → ℕ → Walk Book
     fromGoal a b at = after (goals a at) (fromRules a b)
+
     fromAbducibles : ℕ → Walk Book
     fromAbducibles a at = after (field s (wrongAbducibles (most .abducibles) a) at) (fromGoal a)
+
     parts : (at a at₁ b at₂ : ℕ) (g : List Lit) (at₃ : ℕ) (r : Rules) (next : ℕ)
         → Fielded s (wrongAtoms (most .atoms)) at a at₁
         → Fielded s (wrongAbducibles (most .abducibles) a) at₁ b at₂
@@ -235,26 +247,27 @@ reads-book s most = record { finds = finds; reads = reads }
         let b₄ : next ≡ at₃ + 2 * length (spelled r) = rulesAt .behind in
         record {
           stands =
-            more (atomsAt .there) (atomsAt .value)
-            (stands-at b₁
-            (more (abducAt .there) (abducAt .value) (stands-at b₂ (stands-join (goalAt .stands) (stands-at b₃ (rulesAt .stands))))));
+              more (atomsAt .there) (atomsAt .value)
+              (stands-at b₁
+              (more (abducAt .there) (abducAt .value) (stands-at b₂ (stands-join (goalAt .stands) (stands-at b₃ (rulesAt .stands))))));
           isFine =
-            record {
-              some = atomsFine .0;
-              atoms = atomsFine .1;
-              abducibles = abducFine .0;
-              among = abducFine .1;
-              goal = goalAt .isFine .few;
-              goalNamed = goalAt .isFine .isFine;
-              clauses = rulesAt .isFine .clauses .few;
-              clausesFine = rulesAt .isFine .clauses .isFine .each;
-              bodies = rulesAt .isFine .clauses .isFine .total;
-              constraints = rulesAt .isFine .constraints .few;
-              constraintsFine = rulesAt .isFine .constraints .isFine .each;
-              literals = rulesAt .isFine .constraints .isFine .total
-            };
-          behind = omega (arith, length-append (ofAlternative g) (spelled r))
+              record {
+                some = atomsFine .0;
+                atoms = atomsFine .1;
+                abducibles = abducFine .0;
+                among = abducFine .1;
+                goal = goalAt .isFine .few;
+                goalNamed = goalAt .isFine .isFine;
+                clauses = rulesAt .isFine .clauses .few;
+                clausesFine = rulesAt .isFine .clauses .isFine .each;
+                bodies = rulesAt .isFine .clauses .isFine .total;
+                constraints = rulesAt .isFine .constraints .few;
+                constraintsFine = rulesAt .isFine .constraints .isFine .each;
+                literals = rulesAt .isFine .constraints .isFine .total;
+              };
+          behind = omega (arith, length-append (ofAlternative g) (spelled r));
         }
+
     finds : (at : ℕ) (b : Book) (next : ℕ) → after (field s (wrongAtoms (most .atoms)) at) fromAbducibles ≡ found b next → Read s words (Within most) at b next
     finds at b next e =
         let f = after-found (field s (wrongAtoms (most .atoms)) at) fromAbducibles b next e in
@@ -267,6 +280,7 @@ reads-book s most = record { finds = finds; reads = reads }
         (field-found s (wrongAbducibles (most .abducibles) (f .0)) (f .1) (g .0) (g .1) (g .2))
         (reads-goal s most (f .0) .finds (g .1) (h .0) (h .1) (h .2))
         (reads-rules s most (f .0) (g .0) .finds (h .1) (j .0) (j .1) (j .2)))
+
     reads : (at : ℕ) (b : Book) (next : ℕ) → Read s words (Within most) at b next → after (field s (wrongAtoms (most .atoms)) at) fromAbducibles ≡ found b next
     reads at b next r =
         let w = r .isFine in
@@ -277,35 +291,35 @@ reads-book s most = record { finds = finds; reads = reads }
         let st₂ : Stands s (at + 2 + 2) (goal ++ rest) = stands-rest st₁ in
         let mid : ℕ = at + 2 + 2 + 2 * length goal in
         let e₁ : field s (wrongAtoms (most .atoms)) at ≡ found (b .atoms) (at + 2) =
-            fielded s (wrongAtoms (most .atoms)) at (b .atoms) (at + 2)
-            (record {
-              there = stands-there (r .stands);
-              value = stands-value (r .stands);
-              isFine = fine-atoms (most .atoms) (b .atoms) (w .some, w .atoms);
-              behind = refl
-            }) in
+        fielded s (wrongAtoms (most .atoms)) at (b .atoms) (at + 2)
+        (record {
+          there = stands-there (r .stands);
+          value = stands-value (r .stands);
+          isFine = fine-atoms (most .atoms) (b .atoms) (w .some, w .atoms);
+          behind = refl;
+        }) in
         let e₂ : field s (wrongAbducibles (most .abducibles) (b .atoms)) (at + 2) ≡ found (b .abducibles) (at + 2 + 2) =
-            fielded s (wrongAbducibles (most .abducibles) (b .atoms)) (at + 2) (b .abducibles) (at + 2 + 2)
-            (record {
-              there = stands-there st₁;
-              value = stands-value st₁;
-              isFine = fine-abducibles (most .abducibles) (b .atoms) (b .abducibles) (w .abducibles, w .among);
-              behind = refl
-            }) in
+        fielded s (wrongAbducibles (most .abducibles) (b .atoms)) (at + 2) (b .abducibles) (at + 2 + 2)
+        (record {
+          there = stands-there st₁;
+          value = stands-value st₁;
+          isFine = fine-abducibles (most .abducibles) (b .atoms) (b .abducibles) (w .abducibles, w .among);
+          behind = refl;
+        }) in
         let e₃ : goals (b .atoms) (at + 2 + 2) ≡ found (b .goal) mid =
-            reads-goal s most (b .atoms) .reads (at + 2 + 2) (b .goal) mid
-            (record { stands = stands-left goal rest st₂; isFine = record { few = w .goal; isFine = w .goalNamed }; behind = refl }) in
+        reads-goal s most (b .atoms) .reads (at + 2 + 2) (b .goal) mid
+        (record { stands = stands-left goal rest st₂; isFine = record { few = w .goal; isFine = w .goalNamed }; behind = refl }) in
         let e₄ : rules s most (b .atoms) (b .abducibles) mid ≡ found (b .clauses, b .constraints) next =
-            reads-rules s most (b .atoms) (b .abducibles) .reads mid (b .clauses, b .constraints) next
-            (record {
-              stands = stands-right goal st₂;
-              isFine =
-                record {
-                  clauses = record { few = w .clauses; isFine = record { each = w .clausesFine; total = w .bodies } };
-                  constraints = record { few = w .constraints; isFine = record { each = w .constraintsFine; total = w .literals } }
-                };
-              behind = omega (arith, length-append goal rest)
-            }) in
+        reads-rules s most (b .atoms) (b .abducibles) .reads mid (b .clauses, b .constraints) next
+        (record {
+          stands = stands-right goal st₂;
+          isFine =
+              record {
+                clauses = record { few = w .clauses; isFine = record { each = w .clausesFine; total = w .bodies } };
+                constraints = record { few = w .constraints; isFine = record { each = w .constraintsFine; total = w .literals } };
+              };
+          behind = omega (arith, length-append goal rest);
+        }) in
         ap (λ (st : Step ℕ). after st fromAbducibles) e₁
         ∙ ap (λ (st : Step ℕ). after st (fromGoal (b .atoms))) e₂
         ∙ ap (λ (st : Step (List Lit)). after st (fromRules (b .atoms) (b .abducibles))) e₃
@@ -329,7 +343,7 @@ front-fine s e =
     record {
       long = leb-true 5 (length s) (unless-held (leb 5 (length s)) 1 second e);
       version = eqb-true (getD s 0 0) 1 (unless-held (eqb (getD s 0 0) 1) 2 third e₁);
-      size = eqb-true (lengthField s) (length s - 5) (unless-held (eqb (lengthField s) (length s - 5)) 3 fine e₂)
+      size = eqb-true (lengthField s) (length s - 5) (unless-held (eqb (lengthField s) (length s - 5)) 3 fine e₂);
     }
 
 fine-front : (s : List ℕ) → Front s → wrongFront s ≡ fine
@@ -385,6 +399,7 @@ decode-written s b e = go (wrongFront s) (whole s limits 5) refl refl e
     free : (c : Book) (t : Bool) → loopFree c ≡ t → choose t (accepted c) (refused 9) ≡ accepted b → (c ≡ b) × (loopFree c ≡ true)
     free c true t q = (cc (q), t)
     free c false t q = absurd (not-refused q)
+
     go : (f : Finding) (st : Step Book) → wrongFront s ≡ f → whole s limits 5 ≡ st → inOrder f st ≡ accepted b → Written s b
     go (wrong n) st p q r = absurd (not-refused r)
     go fine (fault n at) p q r = absurd (not-refused r)
@@ -397,7 +412,7 @@ decode-written s b e = go (wrongFront s) (whole s limits 5) refl refl e
           stands = w .0 .stands;
           over = sym (w .1) ∙ w .0 .behind;
           within = w .0 .isFine;
-          free = f .1
+          free = f .1;
         })
 
 pub written-decode : (s : List ℕ) (b : Book) → Written s b → decode s ≡ accepted b

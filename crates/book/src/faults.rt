@@ -7,11 +7,17 @@ ghost use Rattle.book.specs.Faults.{wrongAtoms, wrongAbducibles, wrongCo
 ghost use Rattle.book.specs.Taking.{finding};
 
 pub const MOST_ATOMS: u32 = 256;
+
 pub const MOST_ABDUCIBLES: u32 = 64;
+
 pub const MOST_GOAL: u32 = 16;
+
 pub const MOST_CLAUSES: u32 = 512;
+
 pub const MOST_BODIES: u32 = 1024;
+
 pub const MOST_CONSTRAINTS: u32 = 128;
+
 pub const MOST_LITERALS: u32 = 1024;
 
 pub fn wrong_atoms(x: u32) -> u8

@@ -2,9 +2,5 @@
 // work on the image as lent, and specs/ say where in it each part of an accepted book stands.
 
 pub mod faults;
-
 pub mod fields;
-
 pub mod records;
-
-

@@ -21,7 +21,7 @@ sub-result c = search needs
 
 -- src/fields.rt:37:1
 returns-2 : tie.Need-returns-2
-returns-2 c = 
+returns-2 c =
     let at : ℕ = c .before .args .at in
     let n : ℕ = length (c .before .args .image .now) in
     same-test

@@ -31,7 +31,7 @@ tested-requires c κs = search needs
 
 -- src/fields.rt:149:1
 returns : tie.Need-returns
-returns c = 
+returns c =
     c .tested .ensures
     ∙ field-by _ _ _ _ _ (c .before .before .before .peek .ensures .0)
     (c .before .wrong-alternative .ensures ∙ ap (λ (left : ℕ). wrongAlternative left 1024 (c .before .before .before .before .before .args .sum) (c .before .before .before .peek .result)) (c .before .before .left-behind .ensures))

@@ -23,11 +23,12 @@ returns c = sym (choose-false _ _ (sym (c .before .is-there .ensures) ∙ not-tr
 
 -- src/fields.rt:66:32
 add-t7 : tie.Need-add-t7
-add-t7 c = 
-    omega
-    (arith,
-    leb-true (c .before .before .before .before .args .at + 2) (length (c .before .before .before .before .args .image .now))
-    (sym (c .before .before .is-there .ensures) ∙ not-false _ (c .before .if1 .left)))
+add-t7 c =
+    omega (
+      arith,
+      leb-true (c .before .before .before .before .args .at + 2) (length (c .before .before .before .before .args .image .now))
+          (sym (c .before .before .is-there .ensures) ∙ not-false _ (c .before .if1 .left)),
+    )
 
 -- src/fields.rt:66:9
 returns-2 : tie.Need-returns-2

@@ -41,7 +41,7 @@ enum-known-body c = search needs
 
 -- src/records.rt:44:65
 sub-take-literals : tie.Need-sub-take-literals
-sub-take-literals c = 
+sub-take-literals c =
     let found = field-found _ _ _ _ _ (sym (c .before .before .before .before .before .before .before .take-clause-size .ensures) ∙ ap taken (c .before .before .before .before .before .size .given .1)) in
     let sized = clause-fine _ _ _ _ (found .isFine) .sized .some in
     omega arith
@@ -52,14 +52,14 @@ take-literals-requires c κs = search needs
 
 -- src/records.rt:36:1
 returns : tie.Need-returns
-returns c = 
+returns c =
     sym
     (ap (seen bodyCount)
     (clause-no-size _ _ _ _ _ _ (sym (c .before .before .before .take-clause-size .ensures) ∙ ap taken (c .before .n .given .1))))
 
 -- src/records.rt:36:1
 returns-2 : tie.Need-returns-2
-returns-2 c = 
+returns-2 c =
     sym
     (ap (seen bodyCount)
     (clause-no-head _ _ _ _ _ _
@@ -68,7 +68,7 @@ returns-2 c =
 
 -- src/records.rt:36:1
 returns-3 : tie.Need-returns-3
-returns-3 c = 
+returns-3 c =
     c .take-literals .ensures
     ∙ sym
     (clause-seen _ _ _ _ _ _

@@ -17,7 +17,7 @@ use Rattle.book.proofs.records.take_clauses.Lts as lts
 use Rattle.book.proofs.records.take_clause.Reads as take-clause-reads
 
 abbrev Inv-loop : tie.InvT-loop
-Inv-loop image start count atoms abducibles at₀ sum₀ i₀ at sum i = 
+Inv-loop image start count atoms abducibles at₀ sum₀ i₀ at sum i =
     (i ≤ count)
     × (sum ≤ 1024)
     × (poured (clause image limits atoms abducibles) bodyCount count 0 start ≡ poured (clause image limits atoms abducibles) bodyCount (count - i) sum at)
@@ -39,7 +39,7 @@ enum-known-n c = search needs
 
 -- src/records.rt:59:17
 returns : tie.Need-returns Inv-loop μ-loop
-returns c = 
+returns c =
     sym
     (c .before .before .before .before .before .loop .inv .2
     ∙ poured-fault _ _ _ _ _ _ _ _ (c .before .before .before .before .loop-test .taken)
@@ -51,11 +51,12 @@ enum-known-body c = search needs
 
 -- src/records.rt:62:17
 add-sum : tie.Need-add-sum Inv-loop μ-loop
-add-sum c = 
-    omega
-    (arith,
-    clause-total (c .before .before .before .before .before .before .before .args .image .now) limits _ _ (c .before .before .before .before .before .loop .sum) _ (c .before .body .given .0 .0) _
-    (sym (c .before .before .before .take-clause .ensures) ∙ ap taken (c .before .body .given .1)))
+add-sum c =
+    omega (
+      arith,
+      clause-total (c .before .before .before .before .before .before .before .args .image .now) limits _ _ (c .before .before .before .before .before .loop .sum) _ (c .before .body .given .0 .0) _
+          (sym (c .before .before .before .take-clause .ensures) ∙ ap taken (c .before .body .given .1)),
+    )
 
 -- src/records.rt:66:9
 add-i : tie.Need-add-i Inv-loop μ-loop
@@ -67,16 +68,17 @@ loop-less c = omega arith
 
 -- src/records.rt:56:5
 loop-again : tie.Need-loop-again Inv-loop μ-loop
-loop-again c = 
-    (omega arith,
-    clause-total _ limits _ _ _ _ _ _ (sym (c .before .before .before .take-clause .ensures) ∙ ap taken (c .before .body .given .1)),
-    c .before .before .before .before .before .loop .inv .2
-    ∙ poured-more _ _ _ _ _ _ _ _ (c .before .before .before .before .loop-test .taken)
-    (sym (c .before .before .before .take-clause .ensures) ∙ ap taken (c .before .body .given .1)))
+loop-again c = (
+  omega arith,
+  clause-total _ limits _ _ _ _ _ _ (sym (c .before .before .before .take-clause .ensures) ∙ ap taken (c .before .body .given .1)),
+  c .before .before .before .before .before .loop .inv .2
+      ∙ poured-more _ _ _ _ _ _ _ _ (c .before .before .before .before .loop-test .taken)
+      (sym (c .before .before .before .take-clause .ensures) ∙ ap taken (c .before .body .given .1)),
+)
 
 -- src/records.rt:50:1
 returns-2 : tie.Need-returns-2 Inv-loop μ-loop
-returns-2 c = 
+returns-2 c =
     sym (c .before .loop .inv .2 ∙ poured-done _ _ _ _ _ _ (c .loop-test .left))
 
 pub take-clauses-spec : {M : Type 1} → statement M

@@ -33,7 +33,7 @@ cast-take-inside c = search needs
 
 -- src/records.rt:124:62
 add-take-inside : tie.Need-add-take-inside
-add-take-inside c = 
+add-take-inside c =
     let found = field-found _ _ _ _ _ (sym (c .before .before .before .take-size .ensures) ∙ ap taken (c .before .size .given .1)) in
     let sized = size-fine _ _ (found .isFine) in
     omega arith
@@ -44,14 +44,14 @@ take-inside-requires c κs = search needs
 
 -- src/records.rt:118:1
 returns : tie.Need-returns
-returns c = 
+returns c =
     sym
     (ap (seen (λ k. c .before .before .before .before .before .args .sum + literalCount k))
     (constraint-no-size _ _ _ _ _ (sym (c .before .before .before .take-size .ensures) ∙ ap taken (c .before .n .given .1))))
 
 -- src/records.rt:118:1
 returns-2 : tie.Need-returns-2
-returns-2 c = 
+returns-2 c =
     let size = sym (c .before .before .before .before .take-size .ensures) ∙ ap taken (c .before .before .size .given .1) in
     let found = field-found _ _ _ _ _ size in
     let even = size-fine _ _ (found .isFine) .even in

@@ -17,7 +17,7 @@ use Rattle.book.proofs.records.take_constraints.Lts as lts
 use Rattle.book.proofs.records.take_constraint.Reads as take-constraint-reads
 
 abbrev Inv-loop : tie.InvT-loop
-Inv-loop image start count atoms at₀ sum₀ i₀ at sum i = 
+Inv-loop image start count atoms at₀ sum₀ i₀ at sum i =
     (i ≤ count)
     × (sum ≤ 1024)
     × (poured (constraint image limits atoms) literalCount count 0 start ≡ poured (constraint image limits atoms) literalCount (count - i) sum at)
@@ -39,7 +39,7 @@ enum-known-n c = search needs
 
 -- src/records.rt:138:17
 returns : tie.Need-returns Inv-loop μ-loop
-returns c = 
+returns c =
     sym
     (c .before .before .before .before .before .loop .inv .2
     ∙ poured-total-fault _ _ _ _ _ _ _ _ (c .before .before .before .before .loop-test .taken)
@@ -59,16 +59,17 @@ loop-less c = omega arith
 
 -- src/records.rt:135:5
 loop-again : tie.Need-loop-again Inv-loop μ-loop
-loop-again c = 
-    (omega arith,
-    constraint-total _ limits _ _ _ _ _ (sym (c .before .before .before .take-constraint .ensures) ∙ ap taken (c .before .total .given .1)),
-    c .before .before .before .before .before .loop .inv .2
-    ∙ poured-total _ _ _ _ _ _ _ _ (c .before .before .before .before .loop-test .taken)
-    (sym (c .before .before .before .take-constraint .ensures) ∙ ap taken (c .before .total .given .1)))
+loop-again c = (
+  omega arith,
+  constraint-total _ limits _ _ _ _ _ (sym (c .before .before .before .take-constraint .ensures) ∙ ap taken (c .before .total .given .1)),
+  c .before .before .before .before .before .loop .inv .2
+      ∙ poured-total _ _ _ _ _ _ _ _ (c .before .before .before .before .loop-test .taken)
+      (sym (c .before .before .before .take-constraint .ensures) ∙ ap taken (c .before .total .given .1)),
+)
 
 -- src/records.rt:129:1
 returns-2 : tie.Need-returns-2 Inv-loop μ-loop
-returns-2 c = 
+returns-2 c =
     sym (c .before .loop .inv .2 ∙ poured-done _ _ _ _ _ _ (c .loop-test .left))
 
 pub take-constraints-spec : {M : Type 1} → statement M

@@ -42,20 +42,20 @@ enum-known-ways c = search needs
 
 -- src/records.rt:112:73
 add-take-ways : tie.Need-add-take-ways
-add-take-ways c = 
+add-take-ways c =
     let found = field-found _ _ _ _ _ (sym (c .before .before .before .before .before .before .before .take-conditions .ensures) ∙ ap taken (c .before .before .before .before .before .count .given .1)) in
     let few = conditions-fine _ _ _ _ (found .isFine) .1 in
     omega arith
 
 -- src/records.rt:112:38
 take-ways-requires : tie.Need-take-ways-requires
-take-ways-requires c κs = 
+take-ways-requires c κs =
     let found = field-found _ _ _ _ _ (sym (c .before .before .before .before .before .before .before .take-conditions .ensures) ∙ ap taken (c .before .before .before .before .before .count .given .1)) in
     conditions-fine _ _ _ _ (found .isFine) .1
 
 -- src/records.rt:104:1
 returns : tie.Need-returns
-returns c = 
+returns c =
     λ n h.
     sym
     (ap (seen (λ k. c .before .before .before .before .before .args .sum + literalCount k))
@@ -63,7 +63,7 @@ returns c =
 
 -- src/records.rt:104:1
 returns-2 : tie.Need-returns-2
-returns-2 c = 
+returns-2 c =
     λ n h.
     sym
     (ap (seen (λ k. c .before .before .before .before .before .before .before .before .before .args .sum + literalCount k))
@@ -73,7 +73,7 @@ returns-2 c =
 
 -- src/records.rt:104:1
 returns-3 : tie.Need-returns-3
-returns-3 c = 
+returns-3 c =
     λ n h.
     let count = sym (c .before .before .before .before .before .before .before .before .take-conditions .ensures) ∙ ap taken (c .before .before .before .before .before .before .count .given .1) in
     let lits = sym (c .before .before .before .before .take-literals .ensures) ∙ ap taken (c .before .before .ways .given .1) in

@@ -17,7 +17,7 @@ use Rattle.book.proofs.records.take_literals.Lts as lts
 use Rattle.book.proofs.fields.take_literal.Reads as take-literal-reads
 
 abbrev Inv-loop : tie.InvT-loop
-Inv-loop image start count atoms at₀ i₀ at i = 
+Inv-loop image start count atoms at₀ i₀ at i =
     (i ≤ count) × (poured (λ _. literal image atoms) (λ _. 1) count 0 start ≡ poured (λ _. literal image atoms) (λ _. 1) (count - i) i at)
 
 abbrev μ-loop : tie.MeasureT-loop
@@ -37,7 +37,7 @@ enum-known-n c = search needs
 
 -- src/records.rt:25:17
 returns : tie.Need-returns Inv-loop μ-loop
-returns c = 
+returns c =
     sym
     (c .before .before .before .before .before .loop .inv .1
     ∙ poured-fault _ _ _ _ _ _ _ _ (c .before .before .before .before .loop-test .taken)
@@ -57,15 +57,16 @@ loop-less c = omega arith
 
 -- src/records.rt:22:5
 loop-again : tie.Need-loop-again Inv-loop μ-loop
-loop-again c = 
-    (omega arith,
-    c .before .before .before .before .before .loop .inv .1
-    ∙ poured-more _ _ _ _ _ _ _ _ (c .before .before .before .before .loop-test .taken)
-    (literal-seen _ _ _ ∙ ap (seen (λ _. 1)) (sym (c .before .before .before .take-literal .ensures) ∙ ap taken (c .before .next .given .1))))
+loop-again c = (
+  omega arith,
+  c .before .before .before .before .before .loop .inv .1
+      ∙ poured-more _ _ _ _ _ _ _ _ (c .before .before .before .before .loop-test .taken)
+      (literal-seen _ _ _ ∙ ap (seen (λ _. 1)) (sym (c .before .before .before .take-literal .ensures) ∙ ap taken (c .before .next .given .1))),
+)
 
 -- src/records.rt:17:1
 returns-2 : tie.Need-returns-2 Inv-loop μ-loop
-returns-2 c = 
+returns-2 c =
     let i : ℕ = c .before .loop .i in
     let n : ℕ = c .before .before .before .args .count in
     let all : i ≡ n = omega arith in

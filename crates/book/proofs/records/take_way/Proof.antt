@@ -29,14 +29,14 @@ take-literals-requires c κs = search needs
 
 -- src/records.rt:71:1
 returns : tie.Need-returns
-returns c = 
+returns c =
     sym
     (ap (seen length)
     (way-no-count _ _ _ _ _ _ (sym (c .before .before .before .take-alternative .ensures) ∙ ap taken (c .before .n .given .1))))
 
 -- src/records.rt:71:1
 returns-2 : tie.Need-returns-2
-returns-2 c = 
+returns-2 c =
     c .take-literals .ensures
     ∙ sym
     (way-seen _ _ _ _ _ _ (sym (c .before .before .before .before .take-alternative .ensures) ∙ ap taken (c .before .before .count .given .1)))

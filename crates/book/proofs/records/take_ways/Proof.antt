@@ -32,7 +32,7 @@ enum-known-n c = search needs
 
 -- src/records.rt:92:17
 returns : tie.Need-returns Inv-loop μ-loop
-returns c = 
+returns c =
     λ n h.
     sym
     (onward-fault _ _ _ _ _ _ _ _ _ _ (c .before .before .before .before .before .loop .inv .1) (c .before .before .before .before .loop-test .taken)
@@ -44,26 +44,27 @@ enum-known-literals c = search needs
 
 -- src/records.rt:95:17
 add-sum : tie.Need-add-sum Inv-loop μ-loop
-add-sum c = 
+add-sum c =
     let on = way-ahead _ _ _ _ _ _ _ _ (sym (c .before .before .before .take-way .ensures) ∙ ap taken (c .before .literals .given .1)) .fits in
     omega arith
 
 -- src/records.rt:89:5
 loop-less : tie.Need-loop-less Inv-loop μ-loop
-loop-less c = 
+loop-less c =
     let on = way-ahead _ _ _ _ _ _ _ _ (sym (c .before .before .before .take-way .ensures) ∙ ap taken (c .before .literals .given .1)) in
     omega arith
 
 -- src/records.rt:89:5
 loop-again : tie.Need-loop-again Inv-loop μ-loop
-loop-again c = 
-    (way-ahead _ _ _ _ _ _ _ _ (sym (c .before .before .before .take-way .ensures) ∙ ap taken (c .before .literals .given .1)) .fits,
-    onward-more _ _ _ _ _ _ _ _ _ _ (c .before .before .before .before .before .loop .inv .1) (c .before .before .before .before .loop-test .taken)
-    (sym (c .before .before .before .take-way .ensures) ∙ ap taken (c .before .literals .given .1)))
+loop-again c = (
+  way-ahead _ _ _ _ _ _ _ _ (sym (c .before .before .before .take-way .ensures) ∙ ap taken (c .before .literals .given .1)) .fits,
+  onward-more _ _ _ _ _ _ _ _ _ _ (c .before .before .before .before .before .loop .inv .1) (c .before .before .before .before .loop-test .taken)
+      (sym (c .before .before .before .take-way .ensures) ∙ ap taken (c .before .literals .given .1)),
+)
 
 -- src/records.rt:83:1
 returns-2 : tie.Need-returns-2 Inv-loop μ-loop
-returns-2 c = 
+returns-2 c =
     λ n h. sym (onward-done _ _ _ _ _ _ _ _ (c .before .loop .inv .1) (c .loop-test .left) n h)
 
 pub take-ways-spec : {M : Type 1} → statement M

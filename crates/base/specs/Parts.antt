@@ -1,0 +1,111 @@
+-- Parts of a list: the members that pass a test, what holds of each member and each later one, and a list laid over another.
+-- Assumes nothing.
+use mathlib.Core.Path.{_≡_, refl, sym, ap, subst}
+use mathlib.Core.Bool.{Bool, true, false}
+use mathlib.Core.Logic.{_⊎_, inl, inr, ⊎-elim}
+use mathlib.Core.List.{List·Memᴰ·head, List, [], _∷_, _++_, List·Memᴰ·cases-cons, List·Memᴰ·not-nil, List·Memᴰ·eq-of-singleton}
+use Prim.Native.Nat.{suc, _≤_}
+use native.Mathlib.Nat.{le-of-suc-le-suc, not-suc-le-zero}
+use native.Mathlib.Omega.{arith}
+use lib.ListN.{length, take, drop}
+use Rattle.base.specs.Bools.{clash}
+use Rattle.base.specs.Lists.{_∈_, there, ∈-split, Every, every-none, every-first, every-rest}
+
+module _ {ℓ} {A : Type ℓ} where
+  -- a in front of the list, where the test holds
+  abbrev pub put : Bool → A → List A → List A
+  put true a l = a ∷ l
+  put false a l = l
+
+  -- the members that pass the test, in their order
+  abbrev pub filter : (A → Bool) → List A → List A
+  filter t [] = []
+  filter t (a ∷ l) = put (t a) a (filter t l)
+
+  -- a member that passes stays
+  pub filter-has : (t : A → Bool) (l : List A) {x : A} → x ∈ l → t x ≡ true → x ∈ filter t l
+  filter-has t [] m p = absurd (List·Memᴰ·not-nil m)
+  filter-has t (a ∷ l) {x} m p =
+      go (t a) refl (λ n. filter-has t l n p) (List·Memᴰ·cases-cons m)
+    where
+      go : (b : Bool) → t a ≡ b → (x ∈ l → x ∈ filter t l) → (x ≡ a) ⊎ (x ∈ l) → x ∈ put b a (filter t l)
+      go true e rest (inl q) = List·Memᴰ·head q
+      go true e rest (inr n) = there (rest n)
+      go false e rest (inl q) = clash (subst (λ (y : A). t y ≡ true) q p) e
+      go false e rest (inr n) = rest n
+
+  -- and what stays is a member that passes
+  pub filter-from : (t : A → Bool) (l : List A) {x : A} → x ∈ filter t l → (x ∈ l) × (t x ≡ true)
+  filter-from t [] m = absurd (List·Memᴰ·not-nil m)
+  filter-from t (a ∷ l) {x} m = go (t a) refl (λ n. filter-from t l n) m
+    where
+      go : (b : Bool) → t a ≡ b → (x ∈ filter t l → (x ∈ l) × (t x ≡ true)) → x ∈ put b a (filter t l) → (x ∈ a ∷ l) × (t x ≡ true)
+      go true e rest n =
+          ⊎-elim
+          (λ (q : x ≡ a). (List·Memᴰ·head q, subst (λ (y : A). t y ≡ true) (sym q) e))
+          (λ (k : x ∈ filter t l). (there (rest k .0), rest k .1))
+          (List·Memᴰ·cases-cons n)
+      go false e rest n = (there (rest n .0), rest n .1)
+
+  pub filter-length : (t : A → Bool) (l : List A) → length (filter t l) ≤ length l
+  filter-length t [] = omega arith
+  filter-length t (a ∷ l) = go (t a) (filter-length t l)
+    where
+      go : (b : Bool) → length (filter t l) ≤ length l → length (put b a (filter t l)) ≤ suc (length l)
+      go true h = omega arith
+      go false h = omega arith
+
+  -- R holds of each member and each later one
+  abbrev pub Pairwise {κ} : (A → A → Type κ) → List A → Type (ℓ ⊔ κ)
+  Pairwise R [] = Unit
+  Pairwise R (a ∷ l) = Every (R a) l × Pairwise R l
+
+  -- no member is named twice
+  abbrev pub Once : List A → Type ℓ
+  Once l = Pairwise (λ a b. a ≡ b → ⊥) l
+
+  -- the new list laid over the old from the front, as far as the old one reaches
+  abbrev pub lay : List A → List A → List A
+  lay [] old = old
+  lay (a ∷ new) [] = []
+  lay (a ∷ new) (b ∷ old) = a ∷ lay new old
+
+  pub length-lay : (new old : List A) → length (lay new old) ≡ length old
+  length-lay [] old = refl
+  length-lay (a ∷ new) [] = refl
+  length-lay (a ∷ new) (b ∷ old) = ap suc (length-lay new old)
+
+  pub lay-fits : (new old : List A) → length new ≤ length old → lay new old ≡ new ++ drop (length new) old
+  lay-fits [] old h = refl
+  lay-fits (a ∷ new) [] h = absurd (not-suc-le-zero h)
+  lay-fits (a ∷ new) (b ∷ old) h = ap (λ (l : List A). a ∷ l) (lay-fits new old (le-of-suc-le-suc h))
+
+  pub take-lay : (new old : List A) → length new ≤ length old → take (length new) (lay new old) ≡ new
+  take-lay [] old h = refl
+  take-lay (a ∷ new) [] h = absurd (not-suc-le-zero h)
+  take-lay (a ∷ new) (b ∷ old) h = ap (λ (l : List A). a ∷ l) (take-lay new old (le-of-suc-le-suc h))
+
+  -- what does not fit is cut off
+  pub lay-full : (new more old : List A) → length new ≡ length old → lay (new ++ more) old ≡ lay new old
+  lay-full [] [] old e = refl
+  lay-full [] (a ∷ more) [] e = refl
+  lay-full [] (a ∷ more) (b ∷ old) e = absurd (omega (arith, e))
+  lay-full (a ∷ new) more [] e = refl
+  lay-full (a ∷ new) more (b ∷ old) e = ap (λ (l : List A). a ∷ l) (lay-full new more old (omega (arith, e)))
+
+module _ {ℓ κ} {A : Type ℓ} (R : A → A → Type κ) where
+  pub pairwise-filter : (t : A → Bool) (l : List A) → Pairwise R l → Pairwise R (filter t l)
+  pairwise-filter t [] p = tt
+  pairwise-filter t (a ∷ l) p = go (t a) (pairwise-filter t l (p .1))
+    where
+      go : (b : Bool) → Pairwise R (filter t l) → Pairwise R (put b a (filter t l))
+      go true q = (λ b m. p .0 b (filter-from t l m .0), q)
+      go false q = q
+
+  pub pairwise-last : (l : List A) (x : A) → Pairwise R l → Every (λ a. R a x) l → Pairwise R (l ++ x ∷ [])
+  pairwise-last [] x p e = (every-none (R x), tt)
+  pairwise-last (a ∷ l) x p e = (λ b m. more b (∈-split l m), pairwise-last l x (p .1) (every-rest e))
+    where
+      more : (b : A) → (b ∈ l) ⊎ (b ∈ x ∷ []) → R a b
+      more b (inl m) = p .0 b m
+      more b (inr m) = subst (R a) (sym (List·Memᴰ·eq-of-singleton m)) (every-first e)

@@ -1,0 +1,4 @@
+pub mod Meaning
+pub mod Model
+pub mod Completion
+pub mod Entailed

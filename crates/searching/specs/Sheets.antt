@@ -1,0 +1,164 @@
+-- Accepted sheets: the atoms held true and those held false that certify an explanation by themselves. The abducibles held true on an
+-- accepted sheet explain, and every explaining set has an accepted sheet of exactly its own abducibles held true.
+-- Assumes nothing.
+use Prim.Native.Nat.{ℕ, zero, suc, _%_, _^_, _<_}
+use native.Mathlib.Nat.{zero-div}
+use native.Mathlib.Omega.{arith}
+use mathlib.Core.Path.{_≡_, refl, sym, ap, subst, _∙_}
+use mathlib.Core.Bool.{Bool, true, false, _&&_}
+use mathlib.Core.Logic.{_⊎_, inl, inr}
+use mathlib.Core.List.{List, map}
+use borrow.Author.Tests.{lt-ltb}
+use lib.Dec.{eqb, ltb, leb·suc-suc, leb·suc-zero}
+use Rattle.base.specs.Bools.{choose, clash, both, both-left, both-right, choose-true, choose-false, same-test}
+use Rattle.base.specs.Lists.{_∈_, Every, Some}
+use Rattle.base.specs.Flat.{∈-map, map-∈}
+use Rattle.base.specs.Members.{has}
+use Rattle.base.specs.Below.{below, below-in}
+use Rattle.book.specs.Book.{Lit, Clause, Constraint, Book}
+use Rattle.book.specs.Sound.{Orderly}
+use Rattle.sets.specs.SetLaws.{has-built-zero, has-built-suc, same-members}
+use Rattle.judging.specs.Meaning.{abducible, clausesFor, some-body, value, explains}
+use Rattle.judging.specs.Model.{for-clause, by-rank, value-model}
+use Rattle.searching.specs.Rules.{opposite, on, gather, assumed}
+use Rattle.searching.specs.Steps.{on-∈, ∈-on, ∉-off}
+use Rattle.searching.specs.Known.{Met, Held, Fine, On, met-change, True, met-found, found-met, fine-explains}
+
+-- the atom p held true, or held false
+abbrev pub side : ℕ → Bool → Lit
+side p t = record { atom = p; sign = t }
+
+pub record Accepted (b : Book) (s : List Lit) : Type 0 where
+  -- no atom is in both
+  pub apart : (p : ℕ) → side p true ∈ s → side p false ∈ s → ⊥
+  -- each goal literal sits on its right side
+  pub goal : Every (On s) (b .goal)
+  -- each defined atom on the true sheet has a clause whose literals all sit right
+  pub held-true : (p : ℕ) → abducible b p ≡ false → side p true ∈ s → Some (λ (c : Clause). Every (On s) (c .body)) (clausesFor b p)
+  -- each clause of a defined atom on the false sheet has a literal sitting opposite
+  pub held-false : (p : ℕ) → abducible b p ≡ false → side p false ∈ s → Every (λ (c : Clause). Some (λ (l : Lit). opposite l ∈ s) (c .body)) (clausesFor b p)
+  -- each constraint has a condition literal sitting opposite or an alternative sitting right
+  pub constraints : Every (λ (k : Constraint). Some (λ (l : Lit). opposite l ∈ s) (k .conditions) ⊎ Some (Every (On s)) (k .alternatives)) (b .constraints)
+
+bit : (t : Bool) → choose t 1 0 < 2
+bit true = omega arith
+bit false = omega arith
+
+-- the members of a set gathered are those for which the test holds
+pub has-gather : (n : ℕ) (t : ℕ → Bool) (j : ℕ) → has (gather n t) j ≡ (ltb j n && t j)
+unfolding gather
+has-gather zero t j = ap (λ (n : ℕ). eqb (n % 2) 1) (zero-div (2 ^ j)) ∙ sym (ap (λ (r : Bool). r && t j) (leb·suc-zero j))
+has-gather (suc n) t zero =
+    has-built-zero (gather n (λ (j : ℕ). t (suc j))) (choose (t 0) 1 0) (bit (t 0)) ∙ low (t 0) ∙ sym (ap (λ (r : Bool). r && t 0) (lt-ltb 0 (suc n) (omega arith)))
+  where
+    low : (r : Bool) → eqb (choose r 1 0) 1 ≡ r
+    low true = refl
+    low false = refl
+has-gather (suc n) t (suc j) =
+    has-built-suc (gather n (λ (j : ℕ). t (suc j))) (choose (t 0) 1 0) j (bit (t 0))
+    ∙ has-gather n (λ (j : ℕ). t (suc j)) j ∙ ap (λ (r : Bool). r && t (suc j)) (sym (leb·suc-suc (suc j) n))
+
+-- the members of a sheet's set are the abducibles held true
+pub has-assumed : (b : Book) (s : List Lit) (j : ℕ) → has (assumed b s) j ≡ (abducible b j && on s (side j true))
+has-assumed b s j = has-gather (b .abducibles) (λ (j : ℕ). on s (side j true)) j
+
+-- the sheet on which every atom of the book is held at its value
+abbrev pub own-sheet : Book → ℕ → List Lit
+own-sheet b d = map (λ (p : ℕ). side p (value b d p)) (below (b .atoms))
+
+-- every literal of the sheet is true under v
+abbrev pub Right : (ℕ → Bool) → List Lit → Type 0
+Right v s = Every (True v) s
+
+module _ (b : Book) (o : Orderly b) where
+  -- what is found is what settles the atom
+  pub settled : (d p : ℕ) (t : Bool) → abducible b p ≡ false → Met (True (value b d)) t (clausesFor b p) → value b d p ≡ t
+  settled d p t a m = value-model b o d p ∙ choose-false (has d p) (some-body (value b d) (clausesFor b p)) a ∙ met-found (value b d) t (clausesFor b p) m
+
+  pub settles : (d p : ℕ) (t : Bool) → abducible b p ≡ false → value b d p ≡ t → Met (True (value b d)) t (clausesFor b p)
+  settles d p t a e =
+      found-met (value b d) t (clausesFor b p)
+      (sym (choose-false (has d p) (some-body (value b d) (clausesFor b p)) a) ∙ sym (value-model b o d p) ∙ e)
+
+  -- an abducible has the value that the set gives it
+  pub given : (d p : ℕ) → abducible b p ≡ true → value b d p ≡ has d p
+  given d p a = value-model b o d p ∙ choose-true (has d p) (some-body (value b d) (clausesFor b p)) a
+
+  -- Every literal of an accepted sheet is true under the values of its set.
+  pub accepted-right : (s : List Lit) → Accepted b s → Right (value b (assumed b s)) s
+  accepted-right s a l m = by-rank b o (λ (p : ℕ). (t : Bool) → side p t ∈ s → value b d p ≡ t) step (l .atom) (l .sign) m
+    where
+      d : ℕ
+      d = assumed b s
+
+      assumes : (p : ℕ) → abducible b p ≡ true → value b (assumed b s) p ≡ on s (side p true)
+      assumes p e = given (assumed b s) p e ∙ has-assumed b s p ∙ ap (λ (r : Bool). r && on s (side p true)) e
+
+      step : (p : ℕ) → ((c : Clause) → c ∈ clausesFor b p → (k : Lit) → k ∈ c .body → (t : Bool) → side (k .atom) t ∈ s → value b d (k .atom) ≡ t)
+          → (t : Bool) → side p t ∈ s → value b d p ≡ t
+      step p ih t k = go (abducible b p) refl t k
+        where
+          known : (c : Clause) → c ∈ clausesFor b p → (l : Lit) → l ∈ c .body → (m : Lit) → m .atom ≡ l .atom → m ∈ s → True (value b d) m
+          known c i l j m e n =
+              ap (value b d) e ∙ ih c i l j (m .sign) (subst (λ (q : ℕ). side q (m .sign) ∈ s) e n)
+
+          go : (r : Bool) → abducible b p ≡ r → (t : Bool) → side p t ∈ s → value b d p ≡ t
+          go true e true n = assumes p e ∙ ∈-on s (side p true) n
+          go true e false n = assumes p e ∙ ∉-off s (side p true) (λ i. a .apart p i n)
+          go false e true n = settled d p true e (met-change (On s) (True (value b d)) true (clausesFor b p) known (a .held-true p e n))
+          go false e false n = settled d p false e (met-change (On s) (True (value b d)) false (clausesFor b p) known (a .held-false p e n))
+
+  -- So its abducibles held true explain.
+  pub accepted-explains : (s : List Lit) → Accepted b s → explains b (assumed b s) ≡ true
+  accepted-explains s a = fine-explains b (assumed b s) .0 (λ l m. right l (a .goal l m), λ k m. held k (a .constraints k m))
+    where
+      right : Right (value b (assumed b s)) s
+      right = accepted-right s a
+
+      held : (k : Constraint) → Held (On s) k → Held (True (value b (assumed b s))) k
+      held k (inl w) = inl (w .0, w .1, right (opposite (w .0)) (w .2))
+      held k (inr w) = inr (w .0, w .1, λ l m. right l (w .2 l m))
+
+  own-right : (d : ℕ) → Right (value b d) (own-sheet b d)
+  own-right d l m =
+      let w = map-∈ (λ (p : ℕ). side p (value b d p)) (below (b .atoms)) m in
+      subst (True (value b d)) (sym (w .2)) refl
+
+  own-in : (d : ℕ) (l : Lit) → l .atom < b .atoms → True (value b d) l → l ∈ own-sheet b d
+  own-in d l h e =
+      subst (λ (t : Bool). side (l .atom) t ∈ own-sheet b d) e (∈-map (λ (p : ℕ). side p (value b d p)) (below-in (b .atoms) (l .atom) h))
+
+  -- Every explaining set has an accepted sheet
+  pub own-accepted : (d : ℕ) → explains b d ≡ true → Accepted b (own-sheet b d)
+  own-accepted d e = record {
+    apart = λ p m n. clash (own-right d (side p true) m) (own-right d (side p false) n);
+    goal = λ l m. own-in d l (o .goal-known l m) (fine .0 l m);
+    held-true = λ p a m. met-change (True (value b d)) (On (own-sheet b d)) true (clausesFor b p) (known p) (settles d p true a (own-right d (side p true) m));
+    held-false = λ p a m. met-change (True (value b d)) (On (own-sheet b d)) false (clausesFor b p) (known p) (settles d p false a (own-right d (side p false) m));
+    constraints = λ k m. held k m (fine .1 k m);
+  }
+    where
+      fine : Fine (True (value b d)) b
+      fine = fine-explains b d .1 e
+
+      known : (p : ℕ) (c : Clause) → c ∈ clausesFor b p → (l : Lit) → l ∈ c .body → (m : Lit) → m .atom ≡ l .atom → True (value b d) m → m ∈ own-sheet b d
+      known p c i l j m q t = own-in d m (omega (arith, q, o .bodies-known c (for-clause b p i .0) l j)) t
+
+      held : (k : Constraint) → k ∈ b .constraints → Held (True (value b d)) k → Held (On (own-sheet b d)) k
+      held k m (inl w) = inl (w .0, w .1, own-in d (opposite (w .0)) (o .conditions-known k m (w .0) (w .1)) (w .2))
+      held k m (inr w) = inr (w .0, w .1, λ l n. own-in d l (o .alternatives-known k m (w .0) (w .1) l n) (w .2 l n))
+
+  -- of exactly its own abducibles held true.
+  pub own-assumed : (d : ℕ) → ((j : ℕ) → has d j ≡ true → j < b .abducibles) → assumed b (own-sheet b d) ≡ d
+  own-assumed d h = same-members (assumed b (own-sheet b d)) d (λ j. has-assumed b (own-sheet b d) j ∙ same-test (to j) (back j))
+    where
+      to : (j : ℕ) → (abducible b j && on (own-sheet b d) (side j true)) ≡ true → has d j ≡ true
+      to j e =
+          sym (given d j (both-left (abducible b j) (on (own-sheet b d) (side j true)) e))
+          ∙ own-right d (side j true) (on-∈ (own-sheet b d) (side j true) (both-right (abducible b j) (on (own-sheet b d) (side j true)) e))
+
+      back : (j : ℕ) → has d j ≡ true → (abducible b j && on (own-sheet b d) (side j true)) ≡ true
+      back j e =
+          let a = lt-ltb j (b .abducibles) (h j e) in
+          both (abducible b j) (on (own-sheet b d) (side j true)) a
+          (∈-on (own-sheet b d) (side j true) (own-in d (side j true) (omega (arith, h j e, o .assumable)) (given d j a ∙ e)))

@@ -1,0 +1,256 @@
+-- The successes of a tree: each has an accepted sheet, so that its set explains; and inside every explaining set lies a success's set.
+-- Both are said of every node from which a search may start.
+-- Assumes nothing.
+use Prim.Native.Nat.{ℕ, _<_}
+use mathlib.Core.Path.{_≡_, refl, sym, ap, subst, _∙_}
+use mathlib.Core.Bool.{Bool, true, false, not, true≢false, false≢true}
+use mathlib.Core.Logic.{_⊎_, inl, inr, ⊎-elim}
+use mathlib.Core.List.{List, [], _∷_, map, List·Memᴰ·not-nil, List·Memᴰ·cases-cons, List·Memᴰ·eq-of-singleton}
+use borrow.Author.Tests.{ltb-true}
+use Rattle.base.specs.Bools.{choose, clash, both-left, both-right}
+use Rattle.base.specs.Lists.{_∈_, here, Every, Some, every-none, every-more, every-first, every-rest, every-both, every-left, every-right, flat}
+use Rattle.base.specs.Flat.{∈-flat, flat-∈, map-every, every-map}
+use Rattle.base.specs.Members.{has, Inside}
+use Rattle.book.specs.Book.{Lit, Book}
+use Rattle.book.specs.Sound.{Orderly}
+use Rattle.judging.specs.Meaning.{abducible, clausesFor, value, explains}
+use Rattle.searching.specs.Rules.{opposite, Task, want, pick, Node, root, on, unfolds, opens, children, assumed}
+use Rattle.searching.specs.Steps.{on-∈, off-∉, opposite-twice, before, Result, gone, joins, picks, Child, child, child-of, of-child}
+use Rattle.searching.specs.Tree.{visits, by-children, visits-cases, visits-here, visits-below}
+use Rattle.searching.specs.Known.{Met, Fine, Done, On, done-unfolds, unfolds-done, done-root, root-done, True, never-both, fine-explains}
+use Rattle.searching.specs.Sheets.{side, Accepted, has-assumed, Right, settles, given, accepted-explains}
+
+-- a success is a node without a task
+abbrev pub Success : Node → Type 0
+Success x = x .agenda ≡ []
+
+-- the set of a node that is a success
+unfoldable pub reached : Book → List Task → List Lit → List ℕ
+reached b [] s = assumed b s ∷ []
+reached b (t ∷ rest) s = []
+
+-- the sets of the tree's successes, in visiting order
+abbrev pub sets : Book → Node → List ℕ
+sets b n = flat (λ (x : Node). reached b (x .agenda) (x .sheet)) (visits b n)
+
+-- where a search may start: nothing stands on the sheet, and the agenda has at least all that the root asks
+pub record Start (b : Book) (n : Node) : Type 0 where
+  pub bare : n .sheet ≡ []
+  pub asks : Every (λ (t : Task). t ∈ n .agenda) (root b .agenda)
+
+pub root-starts : (b : Book) → Start b (root b)
+root-starts b = record { bare = refl; asks = λ t m. m }
+
+-- no literal stands beside its opposite
+abbrev Clear : List Lit → Type 0
+Clear s = (l : Lit) → l ∈ s → opposite l ∈ s → ⊥
+
+clear-more : (s : List Lit) (l : Lit) → (opposite l ∈ s → ⊥) → Clear s → Clear (l ∷ s)
+clear-more s l p h k m n = go (List·Memᴰ·cases-cons m) (List·Memᴰ·cases-cons n)
+  where
+    unlike : (t : Bool) → not t ≡ t → ⊥
+    unlike true e = false≢true e
+    unlike false e = true≢false e
+
+    go : (k ≡ l) ⊎ (k ∈ s) → (opposite k ≡ l) ⊎ (opposite k ∈ s) → ⊥
+    go (inl e) (inl f) = unlike (k .sign) (ap (λ (x : Lit). x .sign) (f ∙ sym e))
+    go (inl e) (inr j) = p (subst (λ (x : Lit). opposite x ∈ s) e j)
+    go (inr i) (inl f) = p (subst (λ (x : Lit). x ∈ s) (sym (opposite-twice k) ∙ ap opposite f) i)
+    go (inr i) (inr j) = h k i j
+
+-- n leads to a success with the sheet s
+record Ends (b : Book) (s : List Lit) (n : Node) : Type 0 where
+  -- what stands on n's sheet stands on s
+  grows : Every (On s) (n .sheet)
+  -- s has done n's tasks
+  done : Every (Done (On s)) (n .agenda)
+  -- what has joined since is settled by s
+  fresh : (l : Lit) → l ∈ s → (l ∈ n .sheet) ⊎ (abducible b (l .atom) ≡ false → Met (On s) (l .sign) (clausesFor b (l .atom)))
+  -- and none of it against another
+  clear : Clear (n .sheet) → Clear s
+
+module _ (b : Book) where
+  -- a parent leads where its child leads
+  ends-up : {s : List Lit} {n c : Node} → Child b n c → Ends b s c → Ends b s n
+  ends-up (child (gone {l} p q)) e = record {
+    grows = e .grows;
+    done = every-more (e .grows l q) (e .done);
+    fresh = e .fresh;
+    clear = e .clear;
+  }
+  ends-up {s} (child {rest = rest} {s = s₀} (joins {l} {ts} p q m)) e = record {
+    grows = every-rest (e .grows);
+    done = every-more (every-first (e .grows)) (every-right ts (e .done));
+    fresh = λ k i. ⊎-elim (λ (j : k ∈ l ∷ s₀). new k (List·Memᴰ·cases-cons j)) (λ f. inr f) (e .fresh k i);
+    clear = λ h. e .clear (clear-more s₀ l p h);
+  }
+    where
+      opened : (r : Bool) → abducible b (l .atom) ≡ r → ts ∈ choose r ([] ∷ []) (unfolds (l .sign) (clausesFor b (l .atom))) → abducible b (l .atom) ≡ false
+          → Met (On s) (l .sign) (clausesFor b (l .atom))
+      opened true a i f = clash a f
+      opened false a i f = done-unfolds (On s) (l .sign) (clausesFor b (l .atom)) ts i (every-left rest (e .done))
+
+      new : (k : Lit) → (k ≡ l) ⊎ (k ∈ s₀) → (k ∈ s₀) ⊎ (abducible b (k .atom) ≡ false → Met (On s) (k .sign) (clausesFor b (k .atom)))
+      new k (inl i) = inr (subst (λ (x : Lit). abducible b (x .atom) ≡ false → Met (On s) (x .sign) (clausesFor b (x .atom))) (sym i) (opened (abducible b (l .atom)) refl m))
+      new k (inr j) = inl j
+  ends-up {s} (child (picks {ways} {way} m)) e = record {
+    grows = e .grows;
+    done = every-more (way, m, map-every (Done (On s)) want way (every-left _ (e .done))) (every-right (map want way) (e .done));
+    fresh = e .fresh;
+    clear = e .clear;
+  }
+
+  success-ends : (x : Node) → Success x → Ends b (x .sheet) x
+  success-ends x e = record {
+    grows = λ l m. m;
+    done = subst (Every (Done (On (x .sheet)))) (sym e) (every-none (Done (On (x .sheet))));
+    fresh = λ l m. inl m;
+    clear = λ h. h;
+  }
+
+  -- a node leads to every success of its tree
+  ends : (x : Node) → Success x → (n : Node) → x ∈ visits b n → Ends b (x .sheet) n
+  ends x e = by-children b (λ (n : Node). x ∈ visits b n → Ends b (x .sheet) n) (λ n ih m. go n ih (visits-cases b n m))
+    where
+      go : (n : Node) → ((c : Node) → c ∈ children b n → x ∈ visits b c → Ends b (x .sheet) c)
+          → (x ≡ n) ⊎ Some (λ (c : Node). x ∈ visits b c) (children b n) → Ends b (x .sheet) n
+      go n ih (inl q) = subst (λ (m : Node). Ends b (x .sheet) m) q (success-ends x e)
+      go n ih (inr w) = ends-up (child-of b n (w .1)) (ih (w .0) (w .1) (w .2))
+
+  -- Every success below a start has done all tasks of the start,
+  pub success-done : (n x : Node) → x ∈ visits b n → Success x → Every (Done (On (x .sheet))) (n .agenda)
+  success-done n x m e = ends x e n m .done
+
+  -- and gives an accepted sheet.
+  pub success-accepted : (n x : Node) → Start b n → x ∈ visits b n → Success x → Accepted b (x .sheet)
+  success-accepted n x start m e = record {
+    apart = λ p i j. clear (side p true) i j;
+    goal = fine .0;
+    held-true = λ p a i. settled (side p true) i a;
+    held-false = λ p a i. settled (side p false) i a;
+    constraints = fine .1;
+  }
+    where
+      end : Ends b (x .sheet) n
+      end = ends x e n m
+
+      fine : Fine (On (x .sheet)) b
+      fine = done-root (On (x .sheet)) b (λ t i. end .done t (start .asks t i))
+
+      empty : (l : Lit) → l ∈ n .sheet → ⊥
+      empty l i = List·Memᴰ·not-nil (subst (λ (r : List Lit). l ∈ r) (start .bare) i)
+
+      clear : Clear (x .sheet)
+      clear = end .clear (λ l i j. empty l i)
+
+      settled : (l : Lit) → l ∈ x .sheet → abducible b (l .atom) ≡ false → Met (On (x .sheet)) (l .sign) (clausesFor b (l .atom))
+      settled l i a = ⊎-elim (λ (j : l ∈ n .sheet). absurd (empty l j)) (λ f. f a) (end .fresh l i)
+
+module _ (b : Book) (o : Orderly b) (d : ℕ) where
+  -- n's tasks can be done and its sheet is right under the values of d
+  pub record Agrees (n : Node) : Type 0 where
+    pub able : Every (Done (True (value b d))) (n .agenda)
+    pub right : Right (value b d) (n .sheet)
+
+  -- under d a literal that is true opens to tasks that can be done
+  opens-able : (l : Lit) → True (value b d) l → Some (Every (Done (True (value b d)))) (opens b l)
+  opens-able l e = go (abducible b (l .atom)) refl
+    where
+      go : (r : Bool) → abducible b (l .atom) ≡ r → Some (Every (Done (True (value b d)))) (choose r ([] ∷ []) (unfolds (l .sign) (clausesFor b (l .atom))))
+      go true a = ([], here, every-none (Done (True (value b d))))
+      go false a = unfolds-done (True (value b d)) (l .sign) (clausesFor b (l .atom)) (settles b o d (l .atom) (l .sign) a e)
+
+  -- A node that agrees is a success or has a child that agrees.
+  agrees-down : (n : Node) → Agrees n → Success n ⊎ Some Agrees (children b n)
+  agrees-down n h = go (n .agenda) (h .able)
+    where
+      -- a result whose tasks can be done, and whose sheet is right, makes a child that agrees
+      down : (t : Task) (rest : List Task) (r : Node) → Result b (n .sheet) t r → Every (Done (True (value b d))) (r .agenda) → Right (value b d) (r .sheet)
+          → Every (Done (True (value b d))) rest → Some Agrees (children b (record { agenda = t ∷ rest; sheet = n .sheet }))
+      down t rest r i able right more = (before rest r, of-child b (child i), record { able = every-both able more; right = right })
+
+      wanted : (l : Lit) (rest : List Task) → True (value b d) l → Every (Done (True (value b d))) rest → (t : Bool) → on (n .sheet) l ≡ t
+          → Some Agrees (children b (record { agenda = want l ∷ rest; sheet = n .sheet }))
+      wanted l rest e more true q =
+          down (want l) rest (record { agenda = []; sheet = n .sheet }) (gone clear (on-∈ (n .sheet) l q)) (every-none (Done (True (value b d)))) (h .right) more
+        where
+          clear : opposite l ∈ n .sheet → ⊥
+          clear m = never-both (value b d) l e (h .right (opposite l) m)
+      wanted l rest e more false q =
+          let w = opens-able l e in
+          down (want l) rest (record { agenda = w .0; sheet = l ∷ n .sheet })
+          (joins (λ m. never-both (value b d) l e (h .right (opposite l) m)) (off-∉ (n .sheet) l q) (w .1)) (w .2) (every-more e (h .right)) more
+
+      go : (ts : List Task) → Every (Done (True (value b d))) ts → (ts ≡ []) ⊎ Some Agrees (children b (record { agenda = ts; sheet = n .sheet }))
+      go [] r = inl refl
+      go (want l ∷ rest) r = inr (wanted l rest (every-first r) (every-rest r) (on (n .sheet) l) refl)
+      go (pick ways ∷ rest) r =
+          let w = every-first {P = Done (True (value b d))} r in
+          inr (down (pick ways) rest (record { agenda = map want (w .0); sheet = n .sheet }) (picks (w .1))
+          (every-map (Done (True (value b d))) want (w .0) (w .2)) (h .right) (every-rest r))
+
+  -- So a tree whose first node agrees has a success whose sheet is right.
+  pub agrees-success : (n : Node) → Agrees n → Some (λ (x : Node). Success x × Right (value b d) (x .sheet)) (visits b n)
+  agrees-success = by-children b (λ (n : Node). Agrees n → Some (λ (x : Node). Success x × Right (value b d) (x .sheet)) (visits b n)) step
+    where
+      step : (n : Node) → ((c : Node) → c ∈ children b n → Agrees c → Some (λ (x : Node). Success x × Right (value b d) (x .sheet)) (visits b c))
+          → Agrees n → Some (λ (x : Node). Success x × Right (value b d) (x .sheet)) (visits b n)
+      step n ih h = ⊎-elim (λ (e : Success n). (n, visits-here b n, (e, h .right))) (λ (w : Some Agrees (children b n)). deeper w) (agrees-down n h)
+        where
+          deeper : Some Agrees (children b n) → Some (λ (x : Node). Success x × Right (value b d) (x .sheet)) (visits b n)
+          deeper w =
+              let u = ih (w .0) (w .1) (w .2) in
+              (u .0, visits-below b n (w .0) (w .1) (u .1), u .2)
+
+  -- The set of a sheet that is right lies inside d.
+  right-inside : (s : List Lit) → Right (value b d) s → Inside (assumed b s) d
+  right-inside s h j e =
+      let q = sym (has-assumed b s j) ∙ e in
+      sym (given b o d j (both-left (abducible b j) (on s (side j true)) q))
+      ∙ h (side j true) (on-∈ s (side j true) (both-right (abducible b j) (on s (side j true)) q))
+
+-- a success is a node with an empty agenda, and its set that of its sheet
+pub set-from : (b : Book) (n : Node) {d : ℕ} → d ∈ sets b n → Some (λ (x : Node). Success x × (d ≡ assumed b (x .sheet))) (visits b n)
+unfolding reached
+set-from b n {d} m =
+    let w = flat-∈ (λ (x : Node). reached b (x .agenda) (x .sheet)) (visits b n) m in
+    (w .0, w .1, go (w .0 .agenda) (w .0 .sheet) (w .2))
+  where
+    go : (ts : List Task) (s : List Lit) → d ∈ reached b ts s → (ts ≡ []) × (d ≡ assumed b s)
+    go [] s k = (refl, List·Memᴰ·eq-of-singleton k)
+    go (t ∷ ts) s k = absurd (List·Memᴰ·not-nil k)
+
+pub from-set : (b : Book) (n x : Node) → x ∈ visits b n → Success x → assumed b (x .sheet) ∈ sets b n
+unfolding reached
+from-set b n x m e =
+    ∈-flat (λ (x : Node). reached b (x .agenda) (x .sheet)) (visits b n) m
+    (subst (λ (ts : List Task). assumed b (x .sheet) ∈ reached b ts (x .sheet)) (sym e) here)
+
+module _ (b : Book) (o : Orderly b) where
+  -- A success's set explains, and its members are abducibles.
+  pub sets-explain : (n : Node) → Start b n → (d : ℕ) → d ∈ sets b n → explains b d ≡ true
+  sets-explain n start d m =
+      let w = set-from b n m in
+      subst (λ (k : ℕ). explains b k ≡ true) (sym (w .2 .1))
+      (accepted-explains b o (w .0 .sheet) (success-accepted b n (w .0) start (w .1) (w .2 .0)))
+
+  -- Inside every set under which the start's tasks can be done lies a success's set.
+  pub sets-under : (n : Node) (d : ℕ) → Agrees b o d n → Some (λ (s : ℕ). Inside s d) (sets b n)
+  sets-under n d h =
+      let w = agrees-success b o d n h in
+      (assumed b (w .0 .sheet), from-set b n (w .0) (w .1) (w .2 .0), right-inside b o d (w .0 .sheet) (w .2 .1))
+
+  -- Under a set that explains, the root's tasks can be done.
+  pub root-agrees : (d : ℕ) → explains b d ≡ true → Agrees b o d (root b)
+  root-agrees d e = record {
+    able = root-done (True (value b d)) b (fine-explains b d .1 e);
+    right = every-none (True (value b d));
+  }
+
+-- the members of a success's set are abducibles
+pub sets-abducible : (b : Book) (n : Node) (d : ℕ) → d ∈ sets b n → (j : ℕ) → has d j ≡ true → j < b .abducibles
+sets-abducible b n d m j e =
+    let w = set-from b n m in
+    ltb-true j (b .abducibles)
+    (both-left (abducible b j) (on (w .0 .sheet) (side j true))
+    (sym (has-assumed b (w .0 .sheet) j) ∙ subst (λ (k : ℕ). has k j ≡ true) (w .2 .1) e))

@@ -1,0 +1,331 @@
+-- The loops' invariants. Each has its start, its steps and its end, as laws on lists.
+-- Assumes nothing.
+use mathlib.Core.Path.{_≡_, refl, sym, ap, ap₂, subst, _∙_}
+use mathlib.Core.Bool.{Bool, true, false, not}
+use mathlib.Core.List.{List, [], _∷_, _++_, append-assoc, append-nil, foldl}
+use Prim.Native.Nat.{ℕ, suc, _+_, _-_, _≤_, _<_}
+use native.Mathlib.Nat.{sub-self}
+use native.Mathlib.Numerals.{add-one}
+use native.Mathlib.Omega.{arith}
+use lib.ListN.{drop-of-length-le, length, take, drop, getD, set, length-set, length-append, take-append-drop, replicate-append-replicate}
+use lib.Seq.{slice, slice-empty, length-take-le, take-all, append-snoc, set-split, take-at, drop-at}
+use Rattle.base.specs.Bools.{choose-true, choose-false}
+use Rattle.base.specs.Lists.{any}
+use Rattle.base.specs.Parts.{filter, lay, lay-fits, lay-full, length-lay, take-lay, filter-length}
+use Rattle.base.specs.Order
+use Rattle.base.specs.Least
+use Rattle.sets.specs.Sets.{inside, sooner}
+use Rattle.sets.specs.Kept.{insert, place, sort, zeros, Laid, Stands, insert-length}
+use Rattle.sets.proofs.Steps.{next, next-all, front, stored, stored-behind, behind, behind-at, lay-store, any-first, any-later, filter-first, filter-later}
+
+-- ---- looking for an entry that passes a test, in the part from i to n
+
+pub any-none : (t : ℕ → Bool) (l : List ℕ) (i n : ℕ) → i ≡ n → any t (slice i n l) ≡ false
+any-none t l i n e = ap (λ (j : ℕ). any t (slice j n l)) e ∙ ap (any t) (slice-empty n l)
+
+pub any-met : (t : ℕ → Bool) (l : List ℕ) (i n : ℕ) → i < n → n ≤ length l → t (getD l i 0) ≡ true → any t (slice i n l) ≡ true
+any-met t l i n h k e = ap (any t) (next l i n h k) ∙ any-first t (slice (i + 1) n l) e
+
+pub any-unmet : (t : ℕ → Bool) (l : List ℕ) (i n : ℕ) → i < n → n ≤ length l → t (getD l i 0) ≡ false → any t (slice i n l) ≡ any t (slice (i + 1) n l)
+any-unmet t l i n h k e = ap (any t) (next l i n h k) ∙ any-later t (slice (i + 1) n l) e
+
+-- ---- squeezing: of the first i of n entries those that pass stand in the front, and what is behind them is as it was
+
+pub record Squeezed (t : ℕ → Bool) (old : List ℕ) (n : ℕ) (now : List ℕ) (left i : ℕ) : Type 0 where
+  pub before : left ≤ i
+  pub within : i ≤ n
+  pub fits : n ≤ length old
+  pub size : length now ≡ length old
+  pub passed : filter t (take n old) ≡ take left now ++ filter t (slice i n old)
+  pub rest : drop left now ≡ drop left old
+
+module _ (t : ℕ → Bool) (old : List ℕ) (n : ℕ) where
+  pub squeeze-start : n ≤ length old → Squeezed t old n old 0 0
+  squeeze-start h = record { before = omega arith; within = omega arith; fits = h; size = refl; passed = refl; rest = refl }
+
+  pub squeeze-keeps : {now : List ℕ} {left i : ℕ} → Squeezed t old n now left i → i < n → t (getD now i 0) ≡ true
+      → Squeezed t old n (set now left (getD now i 0)) (left + 1) (i + 1)
+  squeeze-keeps {now} {left} {i} q h e =
+      let x : ℕ = getD now i 0 in
+      let same : x ≡ getD old i 0 = behind-at now old left i (q .rest) (q .before) in
+      record {
+        before = omega (arith, q .before);
+        within = omega arith;
+        fits = q .fits;
+        size = length-set now left x ∙ q .size;
+        passed =
+            q .passed
+            ∙ ap (λ (l : List ℕ). take left now ++ filter t l) (next old i n h (q .fits) ∙ ap (λ (y : ℕ). y ∷ slice (i + 1) n old) (sym same))
+            ∙ ap (λ (l : List ℕ). take left now ++ l) (filter-first t (slice (i + 1) n old) e)
+            ∙ sym (append-snoc (take left now) x (filter t (slice (i + 1) n old)))
+            ∙ ap (λ (l : List ℕ). l ++ filter t (slice (i + 1) n old)) (sym (stored now left x (omega (arith, q .before, q .fits, q .size))));
+        rest = stored-behind now left x ∙ behind now old left 1 (q .rest);
+      }
+
+  pub squeeze-drops : {now : List ℕ} {left i : ℕ} → Squeezed t old n now left i → i < n → t (getD now i 0) ≡ false
+      → Squeezed t old n now left (i + 1)
+  squeeze-drops {now} {left} {i} q h e =
+      let same : getD now i 0 ≡ getD old i 0 = behind-at now old left i (q .rest) (q .before) in
+      record {
+        before = omega (arith, q .before);
+        within = omega arith;
+        fits = q .fits;
+        size = q .size;
+        passed =
+            q .passed
+            ∙ ap (λ (l : List ℕ). take left now ++ filter t l) (next old i n h (q .fits) ∙ ap (λ (y : ℕ). y ∷ slice (i + 1) n old) (sym same))
+            ∙ ap (λ (l : List ℕ). take left now ++ l) (filter-later t (slice (i + 1) n old) e);
+        rest = q .rest;
+      }
+
+  pub squeeze-end : {now : List ℕ} {left i : ℕ} → Squeezed t old n now left i → n ≤ i
+      → Laid (filter t (take n old)) old left now
+  squeeze-end {now} {left} {i} q h = record { count = count; list = whole }
+    where
+      at : i ≡ n
+      at = omega (arith, q .within)
+
+      all : filter t (take n old) ≡ take left now
+      all =
+          q .passed ∙ ap (λ (j : ℕ). take left now ++ filter t (slice j n old)) at
+          ∙ ap (λ (l : List ℕ). take left now ++ filter t l) (slice-empty n old) ∙ append-nil (take left now)
+
+      count : left ≡ length (filter t (take n old))
+      count = sym (ap length all ∙ length-take-le left now (omega (arith, q .before, q .within, q .fits, q .size)))
+
+      whole : now ≡ lay (filter t (take n old)) old
+      whole =
+          sym (take-append-drop left now) ∙ ap₂ _++_ (sym all) (q .rest)
+          ∙ ap (λ (j : ℕ). filter t (take n old) ++ drop j old) count
+          ∙ sym (lay-fits (filter t (take n old)) old (omega (arith, count, q .before, q .within, q .fits)))
+
+-- ---- inserting one set
+
+-- those of the first n entries that do not contain s
+abbrev pub others : List ℕ → ℕ → ℕ → List ℕ
+others old n s = filter (λ k. not (inside s k)) (take n old)
+
+module _ (old : List ℕ) (n s : ℕ) (fits : n ≤ length old) where
+  -- a kept set is inside s
+  pub insert-none : any (λ k. inside k s) (take n old) ≡ true → Laid (insert (take n old) s) old n old
+  unfolding Least.insert
+  insert-none e =
+      let same : insert (take n old) s ≡ take n old = choose-true (take n old) (others old n s ++ s ∷ []) e in
+      let size : length (take n old) ≡ n = length-take-le n old fits in
+      record {
+        count = sym (ap length same ∙ size);
+        list =
+            sym
+            (ap (λ (l : List ℕ). lay l old) same ∙ lay-fits (take n old) old (omega arith)
+            ∙ ap (λ (j : ℕ). take n old ++ drop j old) size ∙ take-append-drop n old);
+      }
+
+  -- none is: s joins the others
+  joins : any (λ k. inside k s) (take n old) ≡ false → insert (take n old) s ≡ others old n s ++ s ∷ []
+  unfolding Least.insert
+  joins e = choose-false (take n old) (others old n s ++ s ∷ []) e
+
+  one-more : {left : ℕ} → any (λ k. inside k s) (take n old) ≡ false → left ≡ length (others old n s) → left + 1 ≡ length (insert (take n old) s)
+  one-more e c = ap (λ (j : ℕ). j + 1) c ∙ sym (ap length (joins e) ∙ length-append (others old n s) (s ∷ []))
+
+  pub insert-left : {left : ℕ} {now : List ℕ} → Laid (others old n s) old left now → left ≤ n
+  insert-left q = omega (arith, q .count, filter-length (λ k. not (inside s k)) (take n old), length-take-le n old fits)
+
+  pub insert-joins : {left : ℕ} {now after : List ℕ} → any (λ k. inside k s) (take n old) ≡ false → Laid (others old n s) old left now
+      → left < length old → after ≡ set now left s → Laid (insert (take n old) s) old (left + 1) after
+  insert-joins e q h w = record {
+    count = one-more e (q .count);
+    list =
+        w ∙ ap₂ (λ (l : List ℕ) (j : ℕ). set l j s) (q .list) (q .count)
+        ∙ lay-store (others old n s) old s (subst (λ (j : ℕ). j < length old) (q .count) h) ∙ ap (λ (l : List ℕ). lay l old) (sym (joins e));
+  }
+
+  -- without room the list stays
+  pub insert-full : {left : ℕ} {now after : List ℕ} → any (λ k. inside k s) (take n old) ≡ false → Laid (others old n s) old left now
+      → length old ≤ left → after ≡ now → Laid (insert (take n old) s) old (left + 1) after
+  insert-full e q h w =
+      let full : length (others old n s) ≡ length old = omega (arith, q .count, insert-left q) in
+      record {
+        count = one-more e (q .count);
+        list = w ∙ q .list ∙ sym (lay-full (others old n s) (s ∷ []) old full) ∙ ap (λ (l : List ℕ). lay l old) (sym (joins e));
+      }
+
+-- ---- inserting the sets of a list: the first i of them are inserted
+
+pub record Inserting (old : List ℕ) (n : ℕ) (list now : List ℕ) (held i : ℕ) : Type 0 where
+  pub within : i ≤ length list
+  pub bound : held ≤ n + i
+  pub fits : n + length list ≤ length old
+  pub size : length now ≡ length old
+  pub kept : foldl insert (take n old) list ≡ foldl insert (take held now) (drop i list)
+
+module _ (old : List ℕ) (n : ℕ) (list : List ℕ) where
+  pub inserting-start : n + length list ≤ length old → Inserting old n list old n 0
+  inserting-start h = record { within = omega arith; bound = omega arith; fits = h; size = refl; kept = refl }
+
+  pub inserting-more : {now after : List ℕ} {held i r : ℕ} → Inserting old n list now held i → i < length list
+      → Laid (insert (take held now) (getD list i 0)) now r after → Inserting old n list after r (i + 1)
+  inserting-more {now} {after} {held} {i} {r} q h laid =
+      let x : ℕ = getD list i 0 in
+      let size : length after ≡ length old = ap length (laid .list) ∙ length-lay (insert (take held now) x) now ∙ q .size in
+      let some : length (take held now) ≡ held = length-take-le held now (omega (arith, q .bound, q .fits, q .size)) in
+      let most : r ≤ held + 1 = omega (arith, insert-length (take held now) x, some, laid .count) in
+      let new : take r after ≡ insert (take held now) x =
+      ap₂ take (laid .count) (laid .list) ∙ take-lay (insert (take held now) x) now (omega (arith, most, laid .count, q .bound, q .fits, q .size)) in
+      record {
+        within = omega arith;
+        bound = omega (arith, most, q .bound);
+        fits = q .fits;
+        size = size;
+        kept =
+            q .kept ∙ ap (foldl insert (take held now)) (next-all list i h)
+            ∙ ap (λ (k : List ℕ). foldl insert k (drop (i + 1) list)) (sym new);
+      }
+
+  pub inserting-end : {now : List ℕ} {held i : ℕ} → Inserting old n list now held i → length list ≤ i
+      → Stands (foldl insert (take n old) list) held now
+  inserting-end {now} {held} {i} q h =
+      let all : take held now ≡ foldl insert (take n old) list = sym (q .kept ∙ ap (foldl insert (take held now)) (drop-of-length-le list h)) in
+      record {
+        count = sym (length-take-le held now (omega (arith, q .bound, q .within, q .fits, q .size))) ∙ ap length all;
+        list = all;
+      }
+
+-- ---- placing one set: it is carried through the first i entries, and the later of the two goes on
+
+pub record Settling (old : List ℕ) (last x : ℕ) (now : List ℕ) (s i : ℕ) : Type 0 where
+  pub within : i ≤ last
+  pub fits : last < length old
+  pub size : length now ≡ length old
+  pub rest : drop i now ≡ drop i old
+  pub placed : place (take last old) x ≡ take i now ++ place (slice i last old) s
+
+module _ (old : List ℕ) (last x : ℕ) where
+  pub settling-start : last < length old → Settling old last x old x 0
+  settling-start h = record { within = omega arith; fits = h; size = refl; rest = refl; placed = refl }
+
+  pub settling-more : {now : List ℕ} {s i a b : ℕ} → Settling old last x now s i → i < last
+      → a ≡ Order.first sooner s (getD now i 0) → b ≡ Order.second sooner s (getD now i 0) → Settling old last x (set now i a) b (i + 1)
+  unfolding Order.place
+  settling-more {now} {s} {i} {a} {b} q h e f =
+      let same : getD now i 0 ≡ getD old i 0 = behind-at now old i i (q .rest) (omega arith) in
+      record {
+        within = omega arith;
+        fits = q .fits;
+        size = length-set now i a ∙ q .size;
+        rest = stored-behind now i a ∙ behind now old i 1 (q .rest);
+        placed =
+            q .placed
+            ∙ ap (λ (l : List ℕ). take i now ++ place l s)
+            (next old i last h (omega (arith, q .fits)) ∙ ap (λ (y : ℕ). y ∷ slice (i + 1) last old) (sym same))
+            ∙ ap₂ (λ (u v : ℕ). take i now ++ u ∷ place (slice (i + 1) last old) v) (sym e) (sym f)
+            ∙ sym (append-snoc (take i now) a (place (slice (i + 1) last old) b))
+            ∙ ap (λ (l : List ℕ). l ++ place (slice (i + 1) last old) b) (sym (stored now i a (omega (arith, q .fits, q .size))));
+      }
+
+  pub settling-end : {now : List ℕ} {s i : ℕ} → Settling old last x now s i → last ≤ i
+      → set now last s ≡ place (take last old) x ++ drop (last + 1) old
+  unfolding Order.place
+  settling-end {now} {s} {i} q h =
+      let at : i ≡ last = omega (arith, q .within) in
+      let all : place (take last old) x ≡ take last now ++ s ∷ [] =
+      q .placed ∙ ap (λ (j : ℕ). take j now ++ place (slice j last old) s) at
+      ∙ ap (λ (l : List ℕ). take last now ++ place l s) (slice-empty last old) in
+      let tail : drop (last + 1) now ≡ drop (last + 1) old =
+      behind now old last 1 (subst (λ (j : ℕ). drop j now ≡ drop j old) at (q .rest)) in
+      set-split now last s (omega (arith, q .fits, q .size))
+      ∙ sym (append-snoc (take last now) s (drop (suc last) now))
+      ∙ ap (λ (j : ℕ). (take last now ++ s ∷ []) ++ drop j now) (sym (add-one last))
+      ∙ ap₂ _++_ (sym all) tail
+
+-- ---- sorting: the first i entries are placed
+
+pub record Sorting (old : List ℕ) (n : ℕ) (now : List ℕ) (i : ℕ) : Type 0 where
+  pub within : i ≤ n
+  pub fits : n ≤ length old
+  pub size : length now ≡ length old
+  pub rest : drop i now ≡ drop i old
+  pub sorted : sort (take n old) ≡ foldl place (take i now) (slice i n old)
+
+module _ (old : List ℕ) (n : ℕ) where
+  pub sorting-start : n ≤ length old → Sorting old n old 0
+  unfolding Order.sort
+  sorting-start h = record { within = omega arith; fits = h; size = refl; rest = refl; sorted = refl }
+
+  pub sorting-more : {now after : List ℕ} {i : ℕ} → Sorting old n now i → i < n
+      → after ≡ place (take i now) (getD now i 0) ++ drop (i + 1) now → length after ≡ length now → Sorting old n after (i + 1)
+  sorting-more {now} {after} {i} q h w z =
+      let same : getD now i 0 ≡ getD old i 0 = behind-at now old i i (q .rest) (omega arith) in
+      let size : length (place (take i now) (getD now i 0)) ≡ i + 1 =
+      Order.length-place sooner (take i now) (getD now i 0) ∙ ap suc (length-take-le i now (omega (arith, q .fits, q .size))) ∙ sym (add-one i) in
+      let new : take (i + 1) after ≡ place (take i now) (getD now i 0) = ap (take (i + 1)) w ∙ take-at (place (take i now) (getD now i 0)) (drop (i + 1) now) (i + 1) size in
+      record {
+        within = omega arith;
+        fits = q .fits;
+        size = z ∙ q .size;
+        rest = ap (drop (i + 1)) w ∙ drop-at (place (take i now) (getD now i 0)) (drop (i + 1) now) (i + 1) size ∙ behind now old i 1 (q .rest);
+        sorted =
+            q .sorted ∙ ap (foldl place (take i now)) (next old i n h (q .fits) ∙ ap (λ (y : ℕ). y ∷ slice (i + 1) n old) (sym same))
+            ∙ ap (λ (l : List ℕ). foldl place l (slice (i + 1) n old)) (sym new);
+      }
+
+  pub sorting-end : {now : List ℕ} {i : ℕ} → Sorting old n now i → n ≤ i → now ≡ sort (take n old) ++ drop n old
+  sorting-end {now} {i} q h =
+      let at : i ≡ n = omega (arith, q .within) in
+      let all : sort (take n old) ≡ take n now =
+      q .sorted ∙ ap (λ (j : ℕ). foldl place (take j now) (slice j n old)) at ∙ ap (foldl place (take n now)) (slice-empty n old) in
+      sym (take-append-drop n now) ∙ ap₂ _++_ (sym all) (subst (λ (j : ℕ). drop j now ≡ drop j old) at (q .rest))
+
+-- ---- copying: the first i entries are copied
+
+pub record Copying (list old : List ℕ) (now : List ℕ) (i : ℕ) : Type 0 where
+  pub size : length now ≡ length old
+  pub copied : take i now ≡ take i list
+  pub rest : drop i now ≡ drop i old
+
+module _ (list old : List ℕ) where
+  pub copying-more : {now : List ℕ} {i : ℕ} → Copying list old now i → i < length list → i < length old → Copying list old (set now i (getD list i 0)) (i + 1)
+  copying-more {now} {i} q h k = record {
+    size = length-set now i (getD list i 0) ∙ q .size;
+    copied = stored now i (getD list i 0) (omega (arith, q .size)) ∙ ap (λ (l : List ℕ). l ++ getD list i 0 ∷ []) (q .copied) ∙ sym (front list i h);
+    rest = stored-behind now i (getD list i 0) ∙ behind now old i 1 (q .rest);
+  }
+
+  pub copying-end : {now : List ℕ} {i : ℕ} → Copying list old now i → now ≡ take i list ++ drop i old
+  copying-end {now} {i} q = sym (take-append-drop i now) ∙ ap₂ _++_ (q .copied) (q .rest)
+
+-- ---- clearing: the entries before i, and from `start` on zeros
+
+pub record Clearing (old : List ℕ) (start : ℕ) (now : List ℕ) (i : ℕ) : Type 0 where
+  pub before : start ≤ i
+  pub within : i ≤ length old
+  pub size : length now ≡ length old
+  pub cleared : take i now ≡ take start old ++ zeros (i - start)
+
+module _ (old : List ℕ) (start : ℕ) where
+  pub clearing-start : start ≤ length old → Clearing old start old start
+  clearing-start h = record {
+    before = omega arith;
+    within = h;
+    size = refl;
+    cleared = sym (ap (λ (k : ℕ). take start old ++ zeros k) (sub-self start) ∙ append-nil (take start old));
+  }
+
+  pub clearing-more : {now : List ℕ} {i : ℕ} → Clearing old start now i → i < length old → Clearing old start (set now i 0) (i + 1)
+  clearing-more {now} {i} q h =
+      let one : i - start + 1 ≡ i + 1 - start = omega (arith, q .before) in
+      record {
+        before = omega (arith, q .before);
+        within = omega arith;
+        size = length-set now i 0 ∙ q .size;
+        cleared =
+            stored now i 0 (omega (arith, q .size)) ∙ ap (λ (l : List ℕ). l ++ 0 ∷ []) (q .cleared)
+            ∙ append-assoc (take start old) (zeros (i - start)) (0 ∷ [])
+            ∙ ap (λ (l : List ℕ). take start old ++ l) (replicate-append-replicate (i - start) 1 0)
+            ∙ ap (λ (k : ℕ). take start old ++ zeros k) one;
+      }
+
+  pub clearing-end : {now : List ℕ} {i : ℕ} → Clearing old start now i → length now ≤ i → now ≡ take start old ++ zeros (length old - start)
+  clearing-end {now} {i} q h =
+      let at : i ≡ length old = omega (arith, q .within, q .size) in
+      sym (take-all i now h) ∙ q .cleared ∙ ap (λ (k : ℕ). take start old ++ zeros (k - start)) at

@@ -1,0 +1,63 @@
+-- `sets::kept::insert` meets its contract: a kept set is inside, or the set joins what is left, or there is no room for it.
+-- Assumes nothing.
+use lib.ListN.{length}
+use Rattle.base.specs.Parts.{length-lay}
+use mathlib.Core.Path.{sym, ap, _∙_}
+use mathlib.Core.Logic.{⊎-elim}
+use native.Mathlib.Omega.{arith}
+use Rattle.sets.proofs.Loops.{insert-none, insert-left, insert-joins, insert-full}
+use borrow.Author.Needs.{needs}
+use Rattle.sets.proofs.kept.insert.Statement.{statement}
+use Rattle.sets.proofs.kept.insert.Tie as tie
+
+has-inside-requires : tie.Need-has-inside-requires
+has-inside-requires c κs = search needs
+
+same-length : tie.Need-same-length
+same-length c = search needs
+
+returns : tie.Need-returns
+returns c =
+    let a = c .before .before .before .before .args in
+    insert-none (a .kept .now) (a .count) (a .set) (c .before .before .before .before .pre) (sym (c .before .has-inside .ensures) ∙ c .if1 .taken)
+
+squeeze-requires : tie.Need-squeeze-requires
+squeeze-requires c κs = search needs
+
+mul-kept : tie.Need-mul-kept
+mul-kept c = search needs
+
+slice-write-kept : tie.Need-slice-write-kept
+slice-write-kept c = search needs
+
+add-result : tie.Need-add-result
+add-result c =
+    let s = c .before .before .before .before .before .before .before .before .before in
+    omega (arith, insert-left (s .args .kept .now) (s .args .count) (s .args .set) (s .pre) (c .before .before .before .squeeze .ensures))
+
+returns-2 : tie.Need-returns-2
+returns-2 c =
+    let s = c .before .before .before .before .before .before .before .before .before in
+    let left = c .before .before .before .squeeze .ensures in
+    let none = sym (c .before .before .before .before .before .before .has-inside .ensures) ∙ c .before .before .before .before .before .if1 .left in
+    ⊎-elim
+    (λ w. insert-joins (s .args .kept .now) (s .args .count) (s .args .set) (s .pre) none left (omega arith) (w .1))
+    (λ w. insert-full (s .args .kept .now) (s .args .count) (s .args .set) (s .pre) none left (omega arith) (w .1))
+    (c .if2 .came)
+
+same-length-2 : tie.Need-same-length-2
+same-length-2 c = ap length (returns-2 c .list) ∙ simp length-lay
+
+pub insert-spec : {M : Type 1} → statement M
+insert-spec =
+    tie.close
+    (tie.spec
+    has-inside-requires
+    same-length
+    returns
+    squeeze-requires
+    mul-kept
+    slice-write-kept
+    add-result
+    same-length-2
+    returns-2)
