@@ -1,15 +1,14 @@
 -- What the floors above may use of an accepted image: its book is within every limit and orderly, and shown by the image.
 -- Assumes nothing.
-use Prim.Native.Nat.{ℕ, _≤_, _<_}
-use mathlib.Core.Path.{_≡_, refl, ap, subst}
-use mathlib.Core.List.{List, [], _∷_}
+use Prim.Native.Nat.{ℕ, _≤_}
+use mathlib.Core.Path.{_≡_, ap}
+use mathlib.Core.List.{List}
 use native.Mathlib.Omega.{arith}
 use lib.ListN.{length}
-use Rattle.base.specs.Lists.{_∈_, Every}
-use Rattle.book.specs.Book.{Lit, Clause, Constraint, Book}
+use Rattle.book.specs.Book.{Book}
 use Rattle.book.specs.Sound.{Orderly}
 use Rattle.book.specs.Faults.{limits}
-use Rattle.book.specs.Loops.{Depends, loopFree, rank}
+use Rattle.book.specs.Loops.{Depends, rank}
 use Rattle.book.specs.LoopLaws.{Closed, free-loopless, free-ranks, rank-most}
 use Rattle.book.specs.Decode.{accepted, decode}
 use Rattle.book.specs.Written.{Within, decode-written}

@@ -1,13 +1,12 @@
 -- Document 01, "The book's image" and "Refusal numbers": what an image says, or the number under which it is refused.
 -- Assumes nothing.
 use Prim.Native.Nat.{ℕ, zero, suc, _+_, _-_, _*_, _/_, _%_}
-use mathlib.Core.Bool.{Bool, true, false}
 use mathlib.Core.List.{List, [], _∷_}
 use lib.ListN.{length, getD}
-use lib.Dec.{leb, ltb, eqb}
+use lib.Dec.{leb, eqb}
 use Rattle.base.specs.Bools.{choose}
 use Rattle.book.specs.Book.{Lit, Clause, Constraint, Book, bodyCount, literalCount}
-use Rattle.book.specs.Walk.{Step, found, fault, Walk, _>>=_, _>>_, give, ahead, behind, Finding, fine, wrong, unless, fieldAt, field, running, times, before}
+use Rattle.book.specs.Walk.{Step, found, fault, Walk, give, ahead, behind, Finding, fine, wrong, unless, fieldAt, field, running, times, before, _>>=_, _>>_}
 use Rattle.book.specs.Faults.{Limits, limits, wrongAtoms, wrongAbducibles, wrongCount, wrongLit, wrongHead, wrongSize, wrongClause, bodyOf, wrongConditions, wrongAlternative}
 use Rattle.book.specs.Loops.{loopFree}
 

@@ -1,25 +1,25 @@
 -- The image of a book, there and back: `decode (encode b)` is b for every book within the limits and without loops, and an
 -- image of bytes that is accepted as b is `encode b`. An image has at most 8,751 bytes.
 -- Assumes nothing.
-use Prim.Native.Nat.{ℕ, zero, suc, _+_, _-_, _*_, _/_, _%_, _≤_, _<_}
+use Prim.Native.Nat.{ℕ, suc, _+_, _-_, _*_, _/_, _%_, _≤_, _<_}
 use mathlib.Core.Path.{_≡_, refl, sym, ap, ap₂, _∙_, subst}
 use mathlib.Core.Bool.{Bool, true, false}
-use mathlib.Core.List.{List, [], _∷_, _++_, map, append-assoc}
+use mathlib.Core.List.{List, [], _∷_, _++_, append-assoc}
 use native.Mathlib.Omega.{arith}
 use native.Mathlib.Numerals.{add-one}
 use lib.ListN.{length, length-append, getD, drop, drop-of-length-le}
 use lib.Seq.{drop-cons, getD-append-seam, getD-append-add}
 use Rattle.base.specs.Bools.{choose}
-use Rattle.base.specs.Lists.{_∈_, Every, every-none, every-more, every-first, every-rest, every-both, flat, sum}
+use Rattle.base.specs.Lists.{Every, every-none, every-more, every-first, every-rest, every-both, flat, sum}
 use Rattle.book.specs.Book.{Lit, Clause, Constraint, Book, bodyCount, literalCount}
 use Rattle.book.specs.Walk.{fieldAt}
 use Rattle.book.specs.Faults.{limits}
 use Rattle.book.specs.Loops.{loopFree}
 use Rattle.book.specs.Decode.{lengthField, accepted, decode}
-use Rattle.book.specs.Spell.{ofLit, ofLits, ofAlternative, ofClause, ofConstraint, ofRules, words, two, encode, Stands, none, more}
+use Rattle.book.specs.Spell.{ofLits, ofAlternative, ofClause, ofConstraint, ofRules, words, two, encode, Stands, none, more}
 use Rattle.book.specs.StandsLaws.{stands-at}
 use Rattle.book.specs.Reads.{Named, length-lits, ClauseFine, AlternativeFine, ConstraintFine}
-use Rattle.book.specs.Written.{Within, Front, Written, decode-written, written-decode}
+use Rattle.book.specs.Written.{Within, Written, decode-written, written-decode}
 
 -- ---- how long the words are, and how large each is
 

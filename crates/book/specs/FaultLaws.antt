@@ -1,11 +1,10 @@
 -- Laws of the faults: what a value that has none is.
 -- Assumes nothing.
-use Prim.Native.Nat.{ℕ, zero, suc, _+_, _-_, _*_, _/_, _%_, _≤_, _<_}
-use mathlib.Core.Path.{_≡_, refl, sym, ap, _∙_}
+use Prim.Native.Nat.{ℕ, _+_, _*_, _/_, _%_, _≤_, _<_}
+use mathlib.Core.Path.{_≡_, refl, sym}
 use mathlib.Core.Bool.{Bool, true, false}
 use lib.Dec.{leb, ltb, eqb}
 use borrow.Author.Tests.{leb-true, ltb-true, eqb-true, le-leb, lt-ltb, eq-eqb}
-use Rattle.base.specs.Bools.{choose}
 use Rattle.book.specs.Walk.{Finding, fine, wrong, unless, andThen}
 use Rattle.book.specs.Faults.{wrongAtoms, wrongAbducibles, wrongCount, wrongLit, wrongHead, wrongSize, wrongClause, wrongConditions, wrongAlternative, bodyOf}
 

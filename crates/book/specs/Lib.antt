@@ -15,6 +15,9 @@ pub mod Written
 pub mod Encode
 pub mod Shown
 pub mod Accepted
+pub mod Sweep
 pub mod Taking
+pub mod Reading
 pub mod Pouring
 pub mod Seen
+pub mod SeenBook

@@ -1,19 +1,19 @@
 -- A book has no loop by the test exactly if no atom depends on itself; and then a rank falls from each head to each atom of
 -- its bodies.
 -- Assumes nothing.
-use Prim.Native.Nat.{ℕ, zero, suc, _+_, _-_, _≤_, _<_}
+use Prim.Native.Nat.{ℕ, zero, suc, _+_, _≤_, _<_}
 use mathlib.Core.Path.{_≡_, refl, sym, ap, _∙_, subst}
-use mathlib.Core.Bool.{Bool, true, false, not, _&&_, _||_}
-use mathlib.Core.Logic.{_↔_, _⊎_, inl, inr, ⊎-elim}
-use mathlib.Core.List.{List, [], _∷_, _++_, List·Memᴰ·not-nil, List·Memᴰ·cases-cons}
+use mathlib.Core.Bool.{Bool, true, false, not, _&&_}
+use mathlib.Core.Logic.{⊎-elim}
+use mathlib.Core.List.{List, [], _∷_, List·Memᴰ·not-nil, List·Memᴰ·cases-cons}
 use native.Mathlib.Omega.{arith}
 use lib.ListN.{length}
 use lib.Dec.{eqb}
-use borrow.Author.Tests.{eqb-true, eqb-false, eq-eqb, not-true, not-false}
+use borrow.Author.Tests.{eqb-true, eqb-false, eq-eqb, not-true}
 use Rattle.base.specs.Bools.{choose, decide, clash, both, both-left, both-right}
-use Rattle.base.specs.Lists.{_∈_, here, there, Every, every-none, every-more, every-first, every-rest, Some, all, any, all-every, every-all, any-some, some-any}
+use Rattle.base.specs.Lists.{_∈_, here, there, Every, every-none, every-more, every-first, every-rest, Some, any, all-every, every-all, any-some, some-any}
 use Rattle.book.specs.Book.{Lit, Clause, Book, Ranks}
-use Rattle.book.specs.Loops.{Depends, direct, through, pending, below, loopFree, rank}
+use Rattle.book.specs.Loops.{Depends, direct, through, pending, below, quiet, loopFree, rank}
 
 -- ---- rounds
 
@@ -122,16 +122,22 @@ unfolding below
 in-below zero p m = absurd (List·Memᴰ·not-nil m)
 in-below (suc n) p m = ⊎-elim (λ (e : p ≡ n). omega arith) (λ k. let h : p < n = in-below n p k in omega arith) (List·Memᴰ·cases-cons m)
 
+pub quiet-none : (cs : List Clause) (atoms n : ℕ) → quiet cs atoms n ≡ true → (p : ℕ) → p < atoms → pending cs n p ≡ false
+unfolding quiet
+quiet-none cs atoms n h p k = not-true _ (all-every (λ (q : ℕ). not (pending cs n q)) (below atoms) h p (below-in atoms p k))
+
+pub none-quiet : (cs : List Clause) (atoms n : ℕ) → ((p : ℕ) → p < atoms → pending cs n p ≡ false) → quiet cs atoms n ≡ true
+unfolding quiet
+none-quiet cs atoms n h = every-all (λ (q : ℕ). not (pending cs n q)) (below atoms) (λ p m. ap not (h p (in-below atoms p m)))
+
 -- no atom is pending at the end of the rounds
 pub free-quiet : (b : Book) → loopFree b ≡ true → (p : ℕ) → p < b .atoms → pending (b .clauses) (b .atoms) p ≡ false
 unfolding loopFree
-free-quiet b h p k = not-true _ (all-every (λ (q : ℕ). not (pending (b .clauses) (b .atoms) q)) (below (b .atoms)) h p (below-in (b .atoms) p k))
+free-quiet b h p k = quiet-none (b .clauses) (b .atoms) (b .atoms) h p k
 
 pub quiet-free : (b : Book) → ((p : ℕ) → p < b .atoms → pending (b .clauses) (b .atoms) p ≡ false) → loopFree b ≡ true
 unfolding loopFree
-quiet-free b h =
-    every-all (λ (q : ℕ). not (pending (b .clauses) (b .atoms) q)) (below (b .atoms))
-    (λ p m. ap not (h p (in-below (b .atoms) p m)))
+quiet-free b h = none-quiet (b .clauses) (b .atoms) (b .atoms) h
 
 -- ---- from the rounds to the relation: a long chain of atoms has one twice
 
@@ -257,3 +263,17 @@ free-ranks b closed free c m l k =
     let quiet : _≡_ {A = ℕ} (choose (pending (b .clauses) (b .atoms) (c .head)) 1 0) 0 =
     ap (λ (t : Bool). choose t 1 0) (free-quiet b free (c .head) (closed .heads c m)) in
     omega arith
+
+-- once none is pending, none is in any later round
+pub quiet-stays : (cs : List Clause) (atoms : ℕ) → Bodied atoms cs → (n k : ℕ) → quiet cs atoms n ≡ true → quiet cs atoms (k + n) ≡ true
+quiet-stays cs atoms small n zero h = let e : 0 + n ≡ n = omega arith in subst (λ (m : ℕ). quiet cs atoms m ≡ true) (sym e) h
+quiet-stays cs atoms small n (suc k) h =
+    let before = quiet-stays cs atoms small n k h in
+    let e : suc (k + n) ≡ suc k + n = omega arith in
+    subst (λ (m : ℕ). quiet cs atoms m ≡ true) e
+    (none-quiet cs atoms (suc (k + n)) (λ p l. ⊎-elim (λ q. still before p q) (λ q. q) (decide (pending cs (suc (k + n)) p))))
+  where
+    still : quiet cs atoms (k + n) ≡ true → (p : ℕ) → pending cs (suc (k + n)) p ≡ true → pending cs (suc (k + n)) p ≡ false
+    still before p q =
+        let f = pending-from cs (k + n) p q in
+        clash (f .holds) (quiet-none cs atoms (k + n) before (f .lit .atom) (small (f .clause) (f .among) (f .lit) (f .within)))

@@ -3,7 +3,7 @@
 -- Assumes nothing.
 use Prim.Native.Nat.{ℕ, zero, suc, _+_}
 use mathlib.Core.Path.{_≡_}
-use mathlib.Core.Bool.{Bool, true, false, not, _&&_}
+use mathlib.Core.Bool.{Bool, true, not, _&&_}
 use mathlib.Core.List.{List, [], _∷_}
 use lib.Dec.{eqb}
 use Rattle.base.specs.Lists.{_∈_, all, any}
@@ -25,9 +25,13 @@ unfoldable pub below : ℕ → List ℕ
 below zero = []
 below (suc n) = n ∷ below n
 
--- No loop: after as many rounds as there are atoms, no atom is pending.
+-- after n rounds none of the first `atoms` atoms is pending
+unfoldable pub quiet : List Clause → ℕ → ℕ → Bool
+quiet cs atoms n = all (λ (p : ℕ). not (pending cs n p)) (below atoms)
+
+-- No loop: as many rounds as there are atoms leave none pending.
 unfoldable pub loopFree : Book → Bool
-loopFree b = all (λ (p : ℕ). not (pending (b .clauses) (b .atoms) p)) (below (b .atoms))
+loopFree b = quiet (b .clauses) (b .atoms) (b .atoms)
 
 -- An atom's rank: in how many of the first n rounds it is pending.
 unfoldable pub rank : List Clause → ℕ → ℕ → ℕ

@@ -2,23 +2,22 @@
 -- it. Both ways, for each walk of `Decode` but the whole book, which is `Written`'s.
 -- Assumes nothing.
 use Prim.Native.Nat.{ℕ, zero, suc, _+_, _-_, _*_, _/_, _%_, _≤_, _<_}
-use mathlib.Core.Path.{_≡_, refl, sym, ap, ap₂, _∙_, subst}
+use mathlib.Core.Path.{_≡_, refl, sym, ap, _∙_, subst}
 use mathlib.Core.Bool.{Bool, true, false}
-use mathlib.Core.Logic.{⊎-elim}
-use mathlib.Core.List.{List, [], _∷_, _++_, map}
+use mathlib.Core.List.{List, [], _∷_, _++_}
 use native.Mathlib.Omega.{arith}
 use lib.ListN.{length, length-append, length-map}
 use lib.Dec.{ltb, eqb}
-use borrow.Author.Tests.{ltb-true, ltb-false, lt-ltb, le-ltb, eqb-true, eqb-false, eq-eqb, ne-eqb}
-use Rattle.base.specs.Bools.{choose, choose-true, choose-false, decide}
-use Rattle.base.specs.Lists.{_∈_, Every, every-none, every-more, every-first, every-rest, flat, sum}
+use borrow.Author.Tests.{ltb-false, lt-ltb, le-ltb, eqb-true, eqb-false, eq-eqb, ne-eqb}
+use Rattle.base.specs.Bools.{choose, choose-true, choose-false}
+use Rattle.base.specs.Lists.{Every, every-none, every-more, every-first, every-rest, flat, sum}
 use Rattle.book.specs.Book.{Lit, Clause, Constraint, bodyCount, literalCount}
-use Rattle.book.specs.Walk.{Step, found, fault, Walk, after, give, fieldAt, field, running, times, Finding, fine}
-use Rattle.book.specs.WalkLaws.{Fielded, field-found, fielded, never}
+use Rattle.book.specs.Walk.{Step, found, fault, Walk, after, give, field, running, times, Finding, fine}
+use Rattle.book.specs.WalkLaws.{field-found, fielded, never}
 use Rattle.book.specs.Faults.{Limits, wrongLit, wrongHead, wrongSize, wrongClause, wrongConditions, wrongAlternative, bodyOf}
-use Rattle.book.specs.FaultLaws.{lit-fine, fine-lit, head-fine, fine-head, Sized, size-fine, fine-size, ClauseSized, clause-fine, fine-clause, conditions-fine, fine-conditions, alternative-fine, fine-alternative}
+use Rattle.book.specs.FaultLaws.{lit-fine, fine-lit, head-fine, fine-head, size-fine, fine-size, clause-fine, fine-clause, conditions-fine, fine-conditions, alternative-fine, fine-alternative}
 use Rattle.book.specs.Decode.{litOf, literal, clause, alternative, alternatives, inside, constraint}
-use Rattle.book.specs.Spell.{ofLit, ofLits, ofAlternative, ofRecord, ofClause, ofConstraint, Stands, none, more}
+use Rattle.book.specs.Spell.{ofLit, ofLits, ofAlternative, ofClause, ofConstraint, Stands, none, more}
 use Rattle.book.specs.StandsLaws.{stands-at, stands-join, stands-left, stands-right, stands-there, stands-value, stands-rest, stands-within}
 
 -- what was found at a place, with the next place

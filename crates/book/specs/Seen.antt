@@ -1,20 +1,19 @@
 -- Each walk of `Decode`, seen as the reader's functions answer it: the fields it goes through, and the literals it counts.
 -- Assumes nothing.
-use Prim.Native.Nat.{ℕ, zero, suc, _+_, _-_, _*_, _/_, _%_, _≤_, _<_}
-use mathlib.Core.Path.{_≡_, refl, sym, ap, _∙_, subst}
+use Prim.Native.Nat.{ℕ, zero, suc, _+_, _-_, _*_, _/_, _≤_, _<_}
+use mathlib.Core.Path.{_≡_, refl, ap, _∙_, subst}
 use mathlib.Core.List.{List, [], _∷_}
 use native.Mathlib.Omega.{arith}
-use lib.Dec.{ltb}
 use borrow.Author.Tests.{lt-ltb, le-ltb}
 use Rattle.base.specs.Bools.{choose-true, choose-false}
 use lib.ListN.{length}
 use Rattle.base.specs.Lists.{sum}
-use Rattle.book.specs.Book.{Lit, Clause, Constraint, bodyCount, literalCount}
-use Rattle.book.specs.Walk.{Step, found, fault, Walk, after, give, field, running, times}
+use Rattle.book.specs.Book.{Lit, bodyCount, literalCount}
+use Rattle.book.specs.Walk.{Step, found, fault, Walk, after, give, field, times}
 use Rattle.book.specs.Faults.{Limits, wrongLit, wrongHead, wrongSize, wrongClause, wrongConditions, wrongAlternative, bodyOf}
 use Rattle.book.specs.Decode.{litOf, literal, clause, alternative, alternatives, inside, constraint}
 use Rattle.book.specs.Spell.{ofLits}
-use Rattle.book.specs.Reads.{reads-clause, reads-literals, alternative-finds, Alternative, reads-constraint}
+use Rattle.book.specs.Reads.{reads-clause, reads-literals, alternative-finds, reads-constraint}
 use Rattle.book.specs.Taking.{seen, poured}
 use Rattle.book.specs.Pouring.{seen-found, seen-fault}
 

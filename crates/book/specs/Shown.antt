@@ -1,20 +1,20 @@
 -- Where in an accepted image each part of its book stands. The places follow the image's own counts and record lengths, so
 -- that code finds them by reading fields.
 -- Assumes nothing.
-use Prim.Native.Nat.{ℕ, zero, suc, _+_, _-_, _*_, _/_, _%_, _≤_, _<_}
-use mathlib.Core.Path.{_≡_, refl, sym, ap, ap₂, _∙_, subst}
+use Prim.Native.Nat.{ℕ, zero, suc, _+_, _*_, _≤_, _<_}
+use mathlib.Core.Path.{_≡_, refl, sym, ap, ap₂, _∙_}
 use mathlib.Core.List.{List, [], _∷_, _++_}
 use native.Mathlib.Omega.{arith}
 use lib.ListN.{length, length-append, getD}
 use Rattle.base.specs.Lists.{flat}
 use Rattle.book.specs.Book.{Lit, Clause, Constraint, Book}
 use Rattle.book.specs.Walk.{fieldAt}
-use Rattle.book.specs.Faults.{limits, bodyOf}
+use Rattle.book.specs.Faults.{bodyOf}
 use Rattle.book.specs.Decode.{litOf, accepted, decode}
-use Rattle.book.specs.Spell.{ofLit, ofLits, ofAlternative, ofRecord, ofClause, ofConstraint, ofRules, words, Stands, none, more}
-use Rattle.book.specs.StandsLaws.{stands-at, stands-left, stands-right, stands-value, stands-there, stands-rest, stands-within}
+use Rattle.book.specs.Spell.{ofLits, ofAlternative, ofRecord, ofClause, ofConstraint, words, Stands}
+use Rattle.book.specs.StandsLaws.{stands-at, stands-left, stands-right, stands-value, stands-there, stands-rest}
 use Rattle.book.specs.Reads.{length-lits, lit-in}
-use Rattle.book.specs.Written.{Within, Written, decode-written}
+use Rattle.book.specs.Written.{decode-written}
 
 -- ---- what stands at a place
 
@@ -139,14 +139,12 @@ pub record Shown (s : List ℕ) (b : Book) : Type 0 where
   pub fits : constraintCount s + 2 ≤ length s
   pub over : constraintPlace s (length (b .constraints)) ≡ length s
 
-pub shown : (s : List ℕ) (b : Book) → decode s ≡ accepted b → Shown s b
+pub words-shown : (s : List ℕ) (b : Book) → Stands s 5 (words b) → length s ≡ 5 + 2 * length (words b) → Shown s b
 unfolding words clauseCount constraintCount
-shown s b e =
-    let w = decode-written s b e in
+words-shown s b st long =
     let goal : List ℕ = ofAlternative (b .goal) in
     let cs : List ℕ = length (b .clauses) ∷ flat ofClause (b .clauses) in
     let ks : List ℕ = length (b .constraints) ∷ flat ofConstraint (b .constraints) in
-    let st : Stands s 5 (words b) = w .stands in
     let st₁ = stands-rest st in
     let st₂ : Stands s 9 (goal ++ (cs ++ ks)) = stands-rest st₁ in
     let stGoal : Stands s 9 goal = stands-left goal (cs ++ ks) st₂ in
@@ -166,7 +164,6 @@ shown s b e =
     let inner : Constraint → List ℕ = λ k. ofAlternative (k .conditions) ++ flat ofAlternative (k .alternatives) in
     let skipped′ : constraintPlace s (length (b .constraints)) ≡ constraintCount s + 2 + 2 * length (flat ofConstraint (b .constraints)) =
     skip-all inner noConstraint s (constraintCount s + 2) (b .constraints) all′ in
-    let long : length s ≡ 5 + 2 * length (words b) = w .over in
     record {
       atoms = stands-value st;
       abducibles = stands-value st₁;
@@ -182,3 +179,6 @@ shown s b e =
       fits = stands-there stConstraints;
       over = omega (arith, length-append goal (cs ++ ks), length-append cs ks);
     }
+
+pub shown : (s : List ℕ) (b : Book) → decode s ≡ accepted b → Shown s b
+shown s b e = let w = decode-written s b e in words-shown s b (w .stands) (w .over)

@@ -1,7 +1,7 @@
 -- How a book is written: each of its parts as field values, in the order of document 01, "The book's image", and the whole
 -- image as bytes. `Stands` says that field values stand in an image from a place on.
 -- Assumes nothing.
-use Prim.Native.Nat.{ℕ, zero, suc, _+_, _*_, _/_, _%_, _≤_}
+use Prim.Native.Nat.{ℕ, _+_, _*_, _/_, _%_, _≤_}
 use mathlib.Core.Path.{_≡_}
 use mathlib.Core.List.{List, [], _∷_, _++_, map}
 use lib.ListN.{length}

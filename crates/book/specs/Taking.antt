@@ -2,7 +2,6 @@
 -- Assumes nothing.
 use Prim.Native.Nat.{ℕ, zero, suc, _+_}
 use mathlib.Core.Path.{_≡_, refl, ap}
-use mathlib.Core.List.{List}
 use Rattle.base.specs.Lists.{sum}
 use Rattle.book.specs.Walk.{Step, found, fault, Walk, Finding, fine, wrong, andThen, running}
 use Rattle.book.specs.declared.fields.Taken.{Taken}

@@ -1,7 +1,7 @@
 -- A walk over the image, by places. At a place it finds a value and the next place, or a fault with its number and its own
 -- place. `do` goes on from what was found, and ends at the first fault.
 -- Assumes nothing.
-use Prim.Native.Nat.{ℕ, zero, suc, _+_, _-_, _*_, _/_, _%_}
+use Prim.Native.Nat.{ℕ, zero, suc, _+_, _-_, _*_}
 use mathlib.Core.Bool.{Bool, true, false}
 use mathlib.Core.List.{List, [], _∷_}
 use lib.ListN.{length, getD}

@@ -1,14 +1,14 @@
 -- Laws of the walk: what a field, a sequence and a running list come to.
 -- Assumes nothing.
-use Prim.Native.Nat.{ℕ, zero, suc, _+_, _-_, _*_, _/_, _%_, _≤_, _<_}
+use Prim.Native.Nat.{ℕ, _+_, _≤_}
 use mathlib.Core.Path.{_≡_, refl, sym, ap, _∙_, subst}
 use mathlib.Core.Bool.{Bool, true, false}
-use mathlib.Core.List.{List, [], _∷_}
-use lib.ListN.{length, getD}
+use mathlib.Core.List.{List}
+use lib.ListN.{length}
 use lib.Dec.{leb}
 use borrow.Author.Tests.{leb-true, le-leb}
 use Rattle.base.specs.Bools.{choose, choose-true, choose-false}
-use Rattle.book.specs.Walk.{Step, found, fault, Walk, after, Finding, fine, wrong, judged, fieldAt, field, running}
+use Rattle.book.specs.Walk.{Step, found, fault, Finding, fine, wrong, judged, fieldAt, field}
 
 module _ (s : List ℕ) (faults : ℕ → Finding) (at : ℕ) where
   -- a field that is not there is 4

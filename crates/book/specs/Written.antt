@@ -1,27 +1,26 @@
 -- An image is accepted as the book b exactly if b is written in it: version, length, b's words from byte 5 on and nothing
 -- behind them; and b is within the limits and without loops.
 -- Assumes nothing.
-use Prim.Native.Nat.{ℕ, zero, suc, _+_, _-_, _*_, _/_, _%_, _≤_, _<_}
+use Prim.Native.Nat.{ℕ, _+_, _-_, _*_, _≤_}
 use mathlib.Core.Path.{_≡_, refl, sym, ap, ap₂, _∙_, subst, subst₂}
 use mathlib.Core.Bool.{Bool, true, false}
-use mathlib.Core.Logic.{⊎-elim, _↔_}
-use mathlib.Core.List.{List, [], _∷_, _++_, map}
+use mathlib.Core.List.{List, _∷_, _++_}
 use native.Mathlib.Omega.{arith}
 use lib.ListN.{length, length-append, getD}
 use lib.Dec.{leb, eqb}
-use borrow.Author.Tests.{leb-true, le-leb, eqb-true, eqb-false, eq-eqb}
-use Rattle.base.specs.Bools.{choose, choose-true, choose-false, clash, decide}
-use Rattle.base.specs.Lists.{_∈_, Every, flat, sum}
+use borrow.Author.Tests.{leb-true, le-leb, eqb-true, eq-eqb}
+use Rattle.base.specs.Bools.{choose, choose-true}
+use Rattle.base.specs.Lists.{Every, flat, sum}
 use Rattle.book.specs.Book.{Lit, Clause, Constraint, Book, bodyCount, literalCount}
-use Rattle.book.specs.Walk.{Step, found, fault, Walk, after, give, fieldAt, field, running, times, Finding, fine, wrong, unless}
+use Rattle.book.specs.Walk.{Step, found, fault, Walk, after, give, field, running, times, Finding, fine, wrong, unless}
 use Rattle.book.specs.WalkLaws.{Fielded, field-found, fielded, never}
 use Rattle.book.specs.Faults.{Limits, limits, wrongAtoms, wrongAbducibles, wrongCount}
 use Rattle.book.specs.FaultLaws.{atoms-fine, fine-atoms, abducibles-fine, fine-abducibles, count-fine, fine-count, unless-held, unless-next}
 use Rattle.book.specs.Loops.{loopFree}
 use Rattle.book.specs.Decode.{literal, clause, constraint, counted, rules, book, ends, whole, lengthField, wrongFront, Decoded, accepted, refused, inOrder, decode}
-use Rattle.book.specs.Spell.{ofLits, ofAlternative, ofClause, ofConstraint, ofRules, words, Stands, none, more}
+use Rattle.book.specs.Spell.{ofLits, ofAlternative, ofClause, ofConstraint, ofRules, words, Stands, more}
 use Rattle.book.specs.StandsLaws.{stands-at, stands-join, stands-left, stands-right, stands-there, stands-value, stands-rest}
-use Rattle.book.specs.Reads.{Read, Reads, after-found, Named, Literals, reads-literals, Ran, ran-length, ran-every, ran-sum, every-ran, reads-running, ClauseFine, ClauseFits, reads-clause, ConstraintFine, ConstraintFits, reads-constraint}
+use Rattle.book.specs.Reads.{Read, Reads, after-found, Named, reads-literals, Ran, ran-length, ran-every, ran-sum, every-ran, reads-running, ClauseFine, ClauseFits, reads-clause, ConstraintFine, ConstraintFits, reads-constraint}
 
 -- every limit of document 01, and what the walk asks of each literal, head and alternative
 pub record Within (most : Limits) (b : Book) : Type 0 where

@@ -3,4 +3,34 @@
 
 pub mod faults;
 pub mod fields;
+pub mod loops;
 pub mod records;
+pub mod walk;
+
+use fields::Taken;
+ghost use Rattle.book.specs.Reading.{Reads};
+
+pub enum Reading {
+    Accepted,
+    Refused(u8),
+}
+
+// Whether the image is a rule book, or the number under which it is refused.
+pub fn read(image: &[u8]) -> Reading
+    ensures { λ r. ⌜ Reads (now (image .entry)) r ⌝ }
+{
+    let front = walk::wrong_front(image);
+    if front != 0 {
+        return Reading::Refused(front);
+    }
+    match walk::take_whole(image) {
+        Taken::Fault(n, _) => Reading::Refused(n),
+        Taken::Found(_, _) => {
+            if loops::is_loop_free(image) {
+                Reading::Accepted
+            } else {
+                Reading::Refused(9)
+            }
+        }
+    }
+}

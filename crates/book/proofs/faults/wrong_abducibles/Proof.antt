@@ -3,20 +3,15 @@ use borrow.Author.Tests.{lt-leb, le-leb}
 use Rattle.book.specs.Faults.{wrongAbducibles}
 use Rattle.book.proofs.faults.wrong_abducibles.Statement.{statement}
 use Rattle.book.proofs.faults.wrong_abducibles.Tie as tie
-use Rattle.book.proofs.faults.wrong_abducibles.Reads as reads
-use Rattle.book.proofs.faults.wrong_abducibles.Lts as lts
 
--- src/faults.rt:34:9
 returns : tie.Need-returns
 unfolding wrongAbducibles
 returns c = simp (lt-leb _ _ (c .if1 .taken))
 
--- src/faults.rt:37:9
 returns-2 : tie.Need-returns-2
 unfolding wrongAbducibles
 returns-2 c = simp (le-leb _ _ (c .before .if1 .left), lt-leb _ _ (c .if2 .taken))
 
--- src/faults.rt:30:1
 returns-3 : tie.Need-returns-3
 unfolding wrongAbducibles
 returns-3 c = simp (le-leb _ _ (c .before .if1 .left), le-leb _ _ (c .if2 .left))

@@ -4,20 +4,14 @@ use Rattle.book.specs.Faults.{wrongAlternative}
 use borrow.Author.Needs.{needs}
 use Rattle.book.proofs.faults.wrong_alternative.Statement.{statement}
 use Rattle.book.proofs.faults.wrong_alternative.Tie as tie
-use Rattle.book.proofs.faults.wrong_alternative.Reads as reads
-use Rattle.book.proofs.faults.wrong_alternative.Lts as lts
-use Rattle.book.proofs.faults.wrong_conditions.Reads as wrong-conditions-reads
 
--- src/faults.rt:119:9
 returns : tie.Need-returns
 unfolding wrongAlternative
 returns c = simp (lt-leb _ _ (c .if1 .taken))
 
--- src/faults.rt:121:5
 wrong-conditions-requires : tie.Need-wrong-conditions-requires
 wrong-conditions-requires c κs = search needs
 
--- src/faults.rt:114:1
 returns-2 : tie.Need-returns-2
 unfolding wrongAlternative
 returns-2 c = simp (le-leb _ _ (c .before .if1 .left)) (c .wrong-conditions .ensures)

@@ -2,40 +2,30 @@
 use mathlib.Core.Path.{sym, ap, _∙_}
 use native.Mathlib.Omega.{arith}
 use borrow.Author.Tests.{lt-leb, le-leb}
-use Rattle.book.specs.Walk.{Finding, andThen}
 use Rattle.book.specs.Faults.{wrongClause}
 use Rattle.book.specs.FaultLaws.{size-fine}
 use Rattle.book.specs.Taking.{finding, finding-first}
 use borrow.Author.Needs.{needs}
 use Rattle.book.proofs.faults.wrong_clause.Statement.{statement}
 use Rattle.book.proofs.faults.wrong_clause.Tie as tie
-use Rattle.book.proofs.faults.wrong_clause.Reads as reads
-use Rattle.book.proofs.faults.wrong_clause.Lts as lts
-use Rattle.book.proofs.faults.wrong_size.Reads as wrong-size-reads
 
--- src/faults.rt:91:9
 wrong-size-requires : tie.Need-wrong-size-requires
 wrong-size-requires c κs = search needs
 
--- src/faults.rt:93:9
 returns : tie.Need-returns
 unfolding wrongClause
 returns c = finding-first _ _ _ (c .if1 .taken) (c .before .wrong-size .ensures)
 
--- src/faults.rt:95:29
 sub-if2 : tie.Need-sub-if2
 sub-if2 c = omega (arith, size-fine _ _ (sym (c .before .wrong-size .ensures) ∙ ap finding (c .if1 .left)))
 
--- src/faults.rt:95:22
 add-if2 : tie.Need-add-if2
 add-if2 c = search needs
 
--- src/faults.rt:96:9
 returns-2 : tie.Need-returns-2
 unfolding wrongClause
 returns-2 c = simp (sym (c .before .before .wrong-size .ensures) ∙ ap finding (c .before .if1 .left), lt-leb _ _ (c .if2 .taken))
 
--- src/faults.rt:87:1
 returns-3 : tie.Need-returns-3
 unfolding wrongClause
 returns-3 c = simp (sym (c .before .before .wrong-size .ensures) ∙ ap finding (c .before .if1 .left), le-leb _ _ (c .if2 .left))

@@ -4,28 +4,21 @@ use Rattle.book.specs.Faults.{wrongConditions}
 use borrow.Author.Needs.{needs}
 use Rattle.book.proofs.faults.wrong_conditions.Statement.{statement}
 use Rattle.book.proofs.faults.wrong_conditions.Tie as tie
-use Rattle.book.proofs.faults.wrong_conditions.Reads as reads
-use Rattle.book.proofs.faults.wrong_conditions.Lts as lts
 
--- src/faults.rt:105:15
 mul-if1 : tie.Need-mul-if1
 mul-if1 c = search needs
 
--- src/faults.rt:106:9
 returns : tie.Need-returns
 unfolding wrongConditions
 returns c = simp (lt-leb _ _ (c .if1 .taken))
 
--- src/faults.rt:108:24
 add-if2 : tie.Need-add-if2
 add-if2 c = search needs
 
--- src/faults.rt:109:9
 returns-2 : tie.Need-returns-2
 unfolding wrongConditions
 returns-2 c = simp (le-leb _ _ (c .before .if1 .left), lt-leb _ _ (c .if2 .taken))
 
--- src/faults.rt:101:1
 returns-3 : tie.Need-returns-3
 unfolding wrongConditions
 returns-3 c = simp (le-leb _ _ (c .before .if1 .left), le-leb _ _ (c .if2 .left))

@@ -3,15 +3,11 @@ use borrow.Author.Tests.{lt-leb, le-leb}
 use Rattle.book.specs.Faults.{wrongCount}
 use Rattle.book.proofs.faults.wrong_count.Statement.{statement}
 use Rattle.book.proofs.faults.wrong_count.Tie as tie
-use Rattle.book.proofs.faults.wrong_count.Reads as reads
-use Rattle.book.proofs.faults.wrong_count.Lts as lts
 
--- src/faults.rt:46:9
 returns : tie.Need-returns
 unfolding wrongCount
 returns c = simp (lt-leb _ _ (c .if1 .taken))
 
--- src/faults.rt:42:1
 returns-2 : tie.Need-returns-2
 unfolding wrongCount
 returns-2 c = simp (le-leb _ _ (c .if1 .left))

@@ -3,20 +3,15 @@ use borrow.Author.Tests.{le-ltb, lt-ltb, le-leb, lt-leb}
 use Rattle.book.specs.Faults.{wrongHead}
 use Rattle.book.proofs.faults.wrong_head.Statement.{statement}
 use Rattle.book.proofs.faults.wrong_head.Tie as tie
-use Rattle.book.proofs.faults.wrong_head.Reads as reads
-use Rattle.book.proofs.faults.wrong_head.Lts as lts
 
--- src/faults.rt:64:9
 returns : tie.Need-returns
 unfolding wrongHead
 returns c = simp (le-ltb _ _ (c .if1 .taken))
 
--- src/faults.rt:67:9
 returns-2 : tie.Need-returns-2
 unfolding wrongHead
 returns-2 c = simp (lt-ltb _ _ (c .before .if1 .left), lt-leb _ _ (c .if2 .taken))
 
--- src/faults.rt:60:1
 returns-3 : tie.Need-returns-3
 unfolding wrongHead
 returns-3 c = simp (lt-ltb _ _ (c .before .if1 .left), le-leb _ _ (c .if2 .left))

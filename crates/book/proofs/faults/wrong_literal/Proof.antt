@@ -3,15 +3,11 @@ use borrow.Author.Tests.{le-ltb, lt-ltb}
 use Rattle.book.specs.Faults.{wrongLit}
 use Rattle.book.proofs.faults.wrong_literal.Statement.{statement}
 use Rattle.book.proofs.faults.wrong_literal.Tie as tie
-use Rattle.book.proofs.faults.wrong_literal.Reads as reads
-use Rattle.book.proofs.faults.wrong_literal.Lts as lts
 
--- src/faults.rt:55:9
 returns : tie.Need-returns
 unfolding wrongLit
 returns c = simp (le-ltb _ _ (c .if1 .taken))
 
--- src/faults.rt:51:1
 returns-2 : tie.Need-returns-2
 unfolding wrongLit
 returns-2 c = simp (lt-ltb _ _ (c .if1 .left))

@@ -3,25 +3,19 @@ use borrow.Author.Tests.{eq-eqb, ne-eqb, le-leb, lt-leb}
 use Rattle.book.specs.Faults.{wrongSize}
 use Rattle.book.proofs.faults.wrong_size.Statement.{statement}
 use Rattle.book.proofs.faults.wrong_size.Tie as tie
-use Rattle.book.proofs.faults.wrong_size.Reads as reads
-use Rattle.book.proofs.faults.wrong_size.Lts as lts
 
--- src/faults.rt:76:9
 returns : tie.Need-returns
 unfolding wrongSize
 returns c = simp (ne-eqb _ _ (c .if1 .taken))
 
--- src/faults.rt:79:9
 returns-2 : tie.Need-returns-2
 unfolding wrongSize
 returns-2 c = simp (eq-eqb _ _ (c .before .if1 .left), lt-leb _ _ (c .if2 .taken))
 
--- src/faults.rt:82:9
 returns-3 : tie.Need-returns-3
 unfolding wrongSize
 returns-3 c = simp (eq-eqb _ _ (c .before .before .if1 .left), le-leb _ _ (c .before .if2 .left), lt-leb _ _ (c .if3 .taken))
 
--- src/faults.rt:72:1
 returns-4 : tie.Need-returns-4
 unfolding wrongSize
 returns-4 c = simp (eq-eqb _ _ (c .before .before .if1 .left), le-leb _ _ (c .before .if2 .left), le-leb _ _ (c .if3 .left))

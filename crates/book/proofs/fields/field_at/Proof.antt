@@ -4,39 +4,28 @@ use Rattle.book.specs.Walk.{fieldAt}
 use borrow.Author.Needs.{needs}
 use Rattle.book.proofs.fields.field_at.Statement.{statement}
 use Rattle.book.proofs.fields.field_at.Tie as tie
-use Rattle.book.proofs.fields.field_at.Reads as reads
-use Rattle.book.proofs.fields.field_at.Lts as lts
-use Rattle.book.proofs.fields.wide.Reads as wide-reads
 
--- src/fields.rt:31:21
 shared-slice-read-wide : tie.Need-shared-slice-read-wide
 shared-slice-read-wide c = search needs
 
--- src/fields.rt:31:9
 wide-requires : tie.Need-wide-requires
 wide-requires c κs = search needs
 
--- src/fields.rt:32:26
 add-wide : tie.Need-add-wide
 add-wide c = search needs
 
--- src/fields.rt:32:20
 shared-slice-read-wide-2 : tie.Need-shared-slice-read-wide-2
 shared-slice-read-wide-2 c = search needs
 
--- src/fields.rt:32:9
 wide-requires-2 : tie.Need-wide-requires-2
 wide-requires-2 c κs = search needs
 
--- src/fields.rt:33:5
 mul-result : tie.Need-mul-result
 mul-result c = search needs
 
--- src/fields.rt:33:5
 add-result : tie.Need-add-result
 add-result c = search needs
 
--- src/fields.rt:27:1
 returns : tie.Need-returns
 unfolding fieldAt
 returns c = omega arith

@@ -1,6 +1,6 @@
 -- `book::fields::is_there` meets its contract. Assumes nothing.
 use lib.ListN.{length}
-use Prim.Native.Nat.{ℕ, _+_, _-_, _≤_}
+use Prim.Native.Nat.{ℕ, _+_, _-_}
 use mathlib.Core.Path.{sym}
 use native.Mathlib.Omega.{arith}
 use Rattle.base.specs.Bools.{same-test}
@@ -8,18 +8,13 @@ use borrow.Author.Tests.{lt-leb, le-leb, leb-true}
 use borrow.Author.Needs.{needs}
 use Rattle.book.proofs.fields.is_there.Statement.{statement}
 use Rattle.book.proofs.fields.is_there.Tie as tie
-use Rattle.book.proofs.fields.is_there.Reads as reads
-use Rattle.book.proofs.fields.is_there.Lts as lts
 
--- src/fields.rt:42:9
 returns : tie.Need-returns
 returns c = sym (lt-leb (c .before .args .at + 2) (length (c .before .args .image .now)) (omega arith))
 
--- src/fields.rt:44:10
 sub-result : tie.Need-sub-result
 sub-result c = search needs
 
--- src/fields.rt:37:1
 returns-2 : tie.Need-returns-2
 returns-2 c =
     let at : ℕ = c .before .args .at in

@@ -1,29 +1,20 @@
 -- `book::fields::peek` meets its contract. Assumes nothing.
 use mathlib.Core.Path.{sym, _∙_}
-use native.Mathlib.Omega.{arith}
 use borrow.Author.Tests.{leb-true}
 use Rattle.base.specs.Bools.{clash}
 use borrow.Author.Needs.{needs}
 use Rattle.book.proofs.fields.peek.Statement.{statement}
 use Rattle.book.proofs.fields.peek.Tie as tie
-use Rattle.book.proofs.fields.peek.Reads as reads
-use Rattle.book.proofs.fields.peek.Lts as lts
-use Rattle.book.proofs.fields.field_at.Reads as field-at-reads
-use Rattle.book.proofs.fields.is_there.Reads as is-there-reads
 
--- src/fields.rt:52:8
 is-there-requires : tie.Need-is-there-requires
 is-there-requires c κs = search needs
 
--- src/fields.rt:53:9
 field-at-requires : tie.Need-field-at-requires
 field-at-requires c κs = leb-true _ _ (sym (c .before .is-there .ensures) ∙ c .if1 .taken)
 
--- src/fields.rt:53:9
 returns : tie.Need-returns
 returns c = search needs
 
--- src/fields.rt:48:1
 returns-2 : tie.Need-returns-2
 returns-2 c = (λ e. clash e (sym (c .before .is-there .ensures) ∙ c .if1 .left), search needs)
 

@@ -4,25 +4,16 @@ use Rattle.book.specs.WalkLaws.{field-by}
 use borrow.Author.Needs.{needs}
 use Rattle.book.proofs.fields.take_abducibles.Statement.{statement}
 use Rattle.book.proofs.fields.take_abducibles.Tie as tie
-use Rattle.book.proofs.fields.take_abducibles.Reads as reads
-use Rattle.book.proofs.fields.take_abducibles.Lts as lts
-use Rattle.book.proofs.faults.wrong_abducibles.Reads as wrong-abducibles-reads
-use Rattle.book.proofs.fields.peek.Reads as peek-reads
-use Rattle.book.proofs.fields.tested.Reads as tested-reads
 
--- src/fields.rt:94:9
 peek-requires : tie.Need-peek-requires
 peek-requires c κs = search needs
 
--- src/fields.rt:95:26
 wrong-abducibles-requires : tie.Need-wrong-abducibles-requires
 wrong-abducibles-requires c κs = search needs
 
--- src/fields.rt:95:5
 tested-requires : tie.Need-tested-requires
 tested-requires c κs = search needs
 
--- src/fields.rt:91:1
 returns : tie.Need-returns
 returns c = c .tested .ensures ∙ field-by _ _ _ _ _ (c .before .before .peek .ensures .0) (c .before .wrong-abducibles .ensures)
 

@@ -6,30 +6,19 @@ use Rattle.book.specs.Faults.{wrongAlternative}
 use borrow.Author.Needs.{needs}
 use Rattle.book.proofs.fields.take_alternative.Statement.{statement}
 use Rattle.book.proofs.fields.take_alternative.Tie as tie
-use Rattle.book.proofs.fields.take_alternative.Reads as reads
-use Rattle.book.proofs.fields.take_alternative.Lts as lts
-use Rattle.book.proofs.faults.wrong_alternative.Reads as wrong-alternative-reads
-use Rattle.book.proofs.fields.left_behind.Reads as left-behind-reads
-use Rattle.book.proofs.fields.peek.Reads as peek-reads
-use Rattle.book.proofs.fields.tested.Reads as tested-reads
 
--- src/fields.rt:153:9
 peek-requires : tie.Need-peek-requires
 peek-requires c κs = search needs
 
--- src/fields.rt:154:9
 left-behind-requires : tie.Need-left-behind-requires
 left-behind-requires c κs = search needs
 
--- src/fields.rt:155:26
 wrong-alternative-requires : tie.Need-wrong-alternative-requires
 wrong-alternative-requires c κs = search needs
 
--- src/fields.rt:155:5
 tested-requires : tie.Need-tested-requires
 tested-requires c κs = search needs
 
--- src/fields.rt:149:1
 returns : tie.Need-returns
 returns c =
     c .tested .ensures

@@ -4,25 +4,16 @@ use Rattle.book.specs.WalkLaws.{field-by}
 use borrow.Author.Needs.{needs}
 use Rattle.book.proofs.fields.take_atoms.Statement.{statement}
 use Rattle.book.proofs.fields.take_atoms.Tie as tie
-use Rattle.book.proofs.fields.take_atoms.Reads as reads
-use Rattle.book.proofs.fields.take_atoms.Lts as lts
-use Rattle.book.proofs.faults.wrong_atoms.Reads as wrong-atoms-reads
-use Rattle.book.proofs.fields.peek.Reads as peek-reads
-use Rattle.book.proofs.fields.tested.Reads as tested-reads
 
--- src/fields.rt:87:9
 peek-requires : tie.Need-peek-requires
 peek-requires c κs = search needs
 
--- src/fields.rt:88:26
 wrong-atoms-requires : tie.Need-wrong-atoms-requires
 wrong-atoms-requires c κs = search needs
 
--- src/fields.rt:88:5
 tested-requires : tie.Need-tested-requires
 tested-requires c κs = search needs
 
--- src/fields.rt:84:1
 returns : tie.Need-returns
 returns c = c .tested .ensures ∙ field-by _ _ _ _ _ (c .before .before .peek .ensures .0) (c .before .wrong-atoms .ensures)
 

@@ -6,30 +6,19 @@ use Rattle.book.specs.Faults.{wrongClause}
 use borrow.Author.Needs.{needs}
 use Rattle.book.proofs.fields.take_clause_size.Statement.{statement}
 use Rattle.book.proofs.fields.take_clause_size.Tie as tie
-use Rattle.book.proofs.fields.take_clause_size.Reads as reads
-use Rattle.book.proofs.fields.take_clause_size.Lts as lts
-use Rattle.book.proofs.faults.wrong_clause.Reads as wrong-clause-reads
-use Rattle.book.proofs.fields.left_behind.Reads as left-behind-reads
-use Rattle.book.proofs.fields.peek.Reads as peek-reads
-use Rattle.book.proofs.fields.tested.Reads as tested-reads
 
--- src/fields.rt:133:9
 peek-requires : tie.Need-peek-requires
 peek-requires c κs = search needs
 
--- src/fields.rt:134:9
 left-behind-requires : tie.Need-left-behind-requires
 left-behind-requires c κs = search needs
 
--- src/fields.rt:135:26
 wrong-clause-requires : tie.Need-wrong-clause-requires
 wrong-clause-requires c κs = search needs
 
--- src/fields.rt:135:5
 tested-requires : tie.Need-tested-requires
 tested-requires c κs = search needs
 
--- src/fields.rt:129:1
 returns : tie.Need-returns
 returns c =
     c .tested .ensures

@@ -6,30 +6,19 @@ use Rattle.book.specs.Faults.{wrongConditions}
 use borrow.Author.Needs.{needs}
 use Rattle.book.proofs.fields.take_conditions.Statement.{statement}
 use Rattle.book.proofs.fields.take_conditions.Tie as tie
-use Rattle.book.proofs.fields.take_conditions.Reads as reads
-use Rattle.book.proofs.fields.take_conditions.Lts as lts
-use Rattle.book.proofs.faults.wrong_conditions.Reads as wrong-conditions-reads
-use Rattle.book.proofs.fields.left_behind.Reads as left-behind-reads
-use Rattle.book.proofs.fields.peek.Reads as peek-reads
-use Rattle.book.proofs.fields.tested.Reads as tested-reads
 
--- src/fields.rt:143:9
 peek-requires : tie.Need-peek-requires
 peek-requires c κs = search needs
 
--- src/fields.rt:144:9
 left-behind-requires : tie.Need-left-behind-requires
 left-behind-requires c κs = search needs
 
--- src/fields.rt:145:26
 wrong-conditions-requires : tie.Need-wrong-conditions-requires
 wrong-conditions-requires c κs = search needs
 
--- src/fields.rt:145:5
 tested-requires : tie.Need-tested-requires
 tested-requires c κs = search needs
 
--- src/fields.rt:139:1
 returns : tie.Need-returns
 returns c =
     c .tested .ensures

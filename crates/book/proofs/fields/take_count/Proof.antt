@@ -4,25 +4,16 @@ use Rattle.book.specs.WalkLaws.{field-by}
 use borrow.Author.Needs.{needs}
 use Rattle.book.proofs.fields.take_count.Statement.{statement}
 use Rattle.book.proofs.fields.take_count.Tie as tie
-use Rattle.book.proofs.fields.take_count.Reads as reads
-use Rattle.book.proofs.fields.take_count.Lts as lts
-use Rattle.book.proofs.faults.wrong_count.Reads as wrong-count-reads
-use Rattle.book.proofs.fields.peek.Reads as peek-reads
-use Rattle.book.proofs.fields.tested.Reads as tested-reads
 
--- src/fields.rt:101:9
 peek-requires : tie.Need-peek-requires
 peek-requires c κs = search needs
 
--- src/fields.rt:102:26
 wrong-count-requires : tie.Need-wrong-count-requires
 wrong-count-requires c κs = search needs
 
--- src/fields.rt:102:5
 tested-requires : tie.Need-tested-requires
 tested-requires c κs = search needs
 
--- src/fields.rt:98:1
 returns : tie.Need-returns
 returns c = c .tested .ensures ∙ field-by _ _ _ _ _ (c .before .before .peek .ensures .0) (c .before .wrong-count .ensures)
 

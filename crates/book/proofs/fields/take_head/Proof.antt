@@ -4,25 +4,16 @@ use Rattle.book.specs.WalkLaws.{field-by}
 use borrow.Author.Needs.{needs}
 use Rattle.book.proofs.fields.take_head.Statement.{statement}
 use Rattle.book.proofs.fields.take_head.Tie as tie
-use Rattle.book.proofs.fields.take_head.Reads as reads
-use Rattle.book.proofs.fields.take_head.Lts as lts
-use Rattle.book.proofs.faults.wrong_head.Reads as wrong-head-reads
-use Rattle.book.proofs.fields.peek.Reads as peek-reads
-use Rattle.book.proofs.fields.tested.Reads as tested-reads
 
--- src/fields.rt:115:9
 peek-requires : tie.Need-peek-requires
 peek-requires c κs = search needs
 
--- src/fields.rt:116:26
 wrong-head-requires : tie.Need-wrong-head-requires
 wrong-head-requires c κs = search needs
 
--- src/fields.rt:116:5
 tested-requires : tie.Need-tested-requires
 tested-requires c κs = search needs
 
--- src/fields.rt:112:1
 returns : tie.Need-returns
 returns c = c .tested .ensures ∙ field-by _ _ _ _ _ (c .before .before .peek .ensures .0) (c .before .wrong-head .ensures)
 

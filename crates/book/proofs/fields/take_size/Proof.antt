@@ -6,30 +6,19 @@ use Rattle.book.specs.Faults.{wrongSize}
 use borrow.Author.Needs.{needs}
 use Rattle.book.proofs.fields.take_size.Statement.{statement}
 use Rattle.book.proofs.fields.take_size.Tie as tie
-use Rattle.book.proofs.fields.take_size.Reads as reads
-use Rattle.book.proofs.fields.take_size.Lts as lts
-use Rattle.book.proofs.faults.wrong_size.Reads as wrong-size-reads
-use Rattle.book.proofs.fields.left_behind.Reads as left-behind-reads
-use Rattle.book.proofs.fields.peek.Reads as peek-reads
-use Rattle.book.proofs.fields.tested.Reads as tested-reads
 
--- src/fields.rt:123:9
 peek-requires : tie.Need-peek-requires
 peek-requires c κs = search needs
 
--- src/fields.rt:124:9
 left-behind-requires : tie.Need-left-behind-requires
 left-behind-requires c κs = search needs
 
--- src/fields.rt:125:26
 wrong-size-requires : tie.Need-wrong-size-requires
 wrong-size-requires c κs = search needs
 
--- src/fields.rt:125:5
 tested-requires : tie.Need-tested-requires
 tested-requires c κs = search needs
 
--- src/fields.rt:120:1
 returns : tie.Need-returns
 returns c =
     c .tested .ensures

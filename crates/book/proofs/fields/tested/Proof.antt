@@ -2,26 +2,20 @@
 use Prim.Native.Nat.{_+_}
 use lib.ListN.{length}
 use borrow.Author.Tests.{not-true, not-false, leb-true}
-use mathlib.Core.Path.{sym, ap, _∙_}
+use mathlib.Core.Path.{sym, _∙_}
 use native.Mathlib.Omega.{arith}
 use Rattle.base.specs.Bools.{choose-true, choose-false}
-use Rattle.book.specs.Taking.{finding, finding-wrong}
+use Rattle.book.specs.Taking.{finding-wrong}
 use borrow.Author.Needs.{needs}
 use Rattle.book.proofs.fields.tested.Statement.{statement}
 use Rattle.book.proofs.fields.tested.Tie as tie
-use Rattle.book.proofs.fields.tested.Reads as reads
-use Rattle.book.proofs.fields.tested.Lts as lts
-use Rattle.book.proofs.fields.is_there.Reads as is-there-reads
 
--- src/fields.rt:62:9
 is-there-requires : tie.Need-is-there-requires
 is-there-requires c κs = search needs
 
--- src/fields.rt:63:9
 returns : tie.Need-returns
 returns c = sym (choose-false _ _ (sym (c .before .is-there .ensures) ∙ not-true _ (c .if1 .taken)))
 
--- src/fields.rt:66:32
 add-t7 : tie.Need-add-t7
 add-t7 c =
     omega (
@@ -30,11 +24,9 @@ add-t7 c =
           (sym (c .before .before .is-there .ensures) ∙ not-false _ (c .before .if1 .left)),
     )
 
--- src/fields.rt:66:9
 returns-2 : tie.Need-returns-2
 returns-2 c = sym (choose-true _ _ (sym (c .before .before .is-there .ensures) ∙ not-false _ (c .before .if1 .left)) ∙ simp (c .if2 .taken))
 
--- src/fields.rt:59:1
 returns-3 : tie.Need-returns-3
 returns-3 c = sym (choose-true _ _ (sym (c .before .before .is-there .ensures) ∙ not-false _ (c .before .if1 .left)) ∙ simp (finding-wrong _ (c .if2 .left)))
 

@@ -9,55 +9,40 @@ use Rattle.book.specs.Seen.{clause-no-size, clause-no-head, clause-seen}
 use borrow.Author.Needs.{needs}
 use Rattle.book.proofs.records.take_clause.Statement.{statement}
 use Rattle.book.proofs.records.take_clause.Tie as tie
-use Rattle.book.proofs.records.take_clause.Reads as reads
-use Rattle.book.proofs.records.take_clause.Lts as lts
-use Rattle.book.proofs.fields.take_clause_size.Reads as take-clause-size-reads
-use Rattle.book.proofs.fields.take_head.Reads as take-head-reads
-use Rattle.book.proofs.records.take_literals.Reads as take-literals-reads
 
--- src/records.rt:40:11
 take-clause-size-requires : tie.Need-take-clause-size-requires
 take-clause-size-requires c κs = search needs
 
--- src/records.rt:41:22
 enum-known-n : tie.Need-enum-known-n
 enum-known-n c = search needs
 
--- src/records.rt:42:22
 enum-known-size : tie.Need-enum-known-size
 enum-known-size c = search needs
 
--- src/records.rt:42:43
 take-head-requires : tie.Need-take-head-requires
 take-head-requires c κs = search needs
 
--- src/records.rt:43:26
 enum-known-n-2 : tie.Need-enum-known-n-2
 enum-known-n-2 c = search needs
 
--- src/records.rt:44:29
 enum-known-body : tie.Need-enum-known-body
 enum-known-body c = search needs
 
--- src/records.rt:44:65
 sub-take-literals : tie.Need-sub-take-literals
 sub-take-literals c =
     let found = field-found _ _ _ _ _ (sym (c .before .before .before .before .before .before .before .take-clause-size .ensures) ∙ ap taken (c .before .before .before .before .before .size .given .1)) in
     let sized = clause-fine _ _ _ _ (found .isFine) .sized .some in
     omega arith
 
--- src/records.rt:44:38
 take-literals-requires : tie.Need-take-literals-requires
 take-literals-requires c κs = search needs
 
--- src/records.rt:36:1
 returns : tie.Need-returns
 returns c =
     sym
     (ap (seen bodyCount)
     (clause-no-size _ _ _ _ _ _ (sym (c .before .before .before .take-clause-size .ensures) ∙ ap taken (c .before .n .given .1))))
 
--- src/records.rt:36:1
 returns-2 : tie.Need-returns-2
 returns-2 c =
     sym
@@ -66,7 +51,6 @@ returns-2 c =
     (sym (c .before .before .before .before .before .before .before .take-clause-size .ensures) ∙ ap taken (c .before .before .before .before .before .size .given .1))
     (sym (c .before .before .before .take-head .ensures) ∙ ap taken (c .before .n2 .given .1))))
 
--- src/records.rt:36:1
 returns-3 : tie.Need-returns-3
 returns-3 c =
     c .take-literals .ensures

@@ -1,6 +1,6 @@
 -- `book::records::take_clauses` meets its contract. Assumes nothing.
-use mathlib.Core.Path.{_≡_, refl, sym, ap, _∙_}
-use Prim.Native.Nat.{ℕ, _+_, _-_, _≤_}
+use mathlib.Core.Path.{_≡_, sym, ap, _∙_}
+use Prim.Native.Nat.{_-_, _≤_}
 use native.Mathlib.Omega.{arith}
 use native.Mathlib.Nat.{sub-zero}
 use borrow.Author.Needs.{needs}
@@ -12,9 +12,6 @@ use Rattle.book.specs.Pouring.{poured-done, poured-more, poured-fault}
 use Rattle.book.specs.Seen.{clause-total}
 use Rattle.book.proofs.records.take_clauses.Statement.{statement}
 use Rattle.book.proofs.records.take_clauses.Tie as tie
-use Rattle.book.proofs.records.take_clauses.Reads as reads
-use Rattle.book.proofs.records.take_clauses.Lts as lts
-use Rattle.book.proofs.records.take_clause.Reads as take-clause-reads
 
 abbrev Inv-loop : tie.InvT-loop
 Inv-loop image start count atoms abducibles at₀ sum₀ i₀ at sum i =
@@ -25,19 +22,15 @@ Inv-loop image start count atoms abducibles at₀ sum₀ i₀ at sum i =
 abbrev μ-loop : tie.MeasureT-loop
 μ-loop image start count atoms abducibles at₀ sum₀ i₀ at sum i = count - i
 
--- src/records.rt:56:5
 loop-holds : tie.Need-loop-holds Inv-loop μ-loop
 loop-holds c = (search needs, search needs, simp sub-zero)
 
--- src/records.rt:57:15
 take-clause-requires : tie.Need-take-clause-requires Inv-loop μ-loop
 take-clause-requires c κs = omega arith
 
--- src/records.rt:58:26
 enum-known-n : tie.Need-enum-known-n Inv-loop μ-loop
 enum-known-n c = search needs
 
--- src/records.rt:59:17
 returns : tie.Need-returns Inv-loop μ-loop
 returns c =
     sym
@@ -45,11 +38,9 @@ returns c =
     ∙ poured-fault _ _ _ _ _ _ _ _ (c .before .before .before .before .loop-test .taken)
     (sym (c .before .before .before .take-clause .ensures) ∙ ap taken (c .before .n .given .1)))
 
--- src/records.rt:61:26
 enum-known-body : tie.Need-enum-known-body Inv-loop μ-loop
 enum-known-body c = search needs
 
--- src/records.rt:62:17
 add-sum : tie.Need-add-sum Inv-loop μ-loop
 add-sum c =
     omega (
@@ -58,15 +49,12 @@ add-sum c =
           (sym (c .before .before .before .take-clause .ensures) ∙ ap taken (c .before .body .given .1)),
     )
 
--- src/records.rt:66:9
 add-i : tie.Need-add-i Inv-loop μ-loop
 add-i c = omega arith
 
--- src/records.rt:56:5
 loop-less : tie.Need-loop-less Inv-loop μ-loop
 loop-less c = omega arith
 
--- src/records.rt:56:5
 loop-again : tie.Need-loop-again Inv-loop μ-loop
 loop-again c = (
   omega arith,
@@ -76,7 +64,6 @@ loop-again c = (
       (sym (c .before .before .before .take-clause .ensures) ∙ ap taken (c .before .body .given .1)),
 )
 
--- src/records.rt:50:1
 returns-2 : tie.Need-returns-2 Inv-loop μ-loop
 returns-2 c =
     sym (c .before .loop .inv .2 ∙ poured-done _ _ _ _ _ _ (c .loop-test .left))

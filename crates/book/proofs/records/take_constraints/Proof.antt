@@ -1,6 +1,6 @@
 -- `book::records::take_constraints` meets its contract. Assumes nothing.
-use mathlib.Core.Path.{_≡_, refl, sym, ap, _∙_}
-use Prim.Native.Nat.{ℕ, _+_, _-_, _≤_}
+use mathlib.Core.Path.{_≡_, sym, ap, _∙_}
+use Prim.Native.Nat.{_-_, _≤_}
 use native.Mathlib.Omega.{arith}
 use native.Mathlib.Nat.{sub-zero}
 use borrow.Author.Needs.{needs}
@@ -12,9 +12,6 @@ use Rattle.book.specs.Pouring.{poured-done, poured-total, poured-total-f
 use Rattle.book.specs.Seen.{constraint-total}
 use Rattle.book.proofs.records.take_constraints.Statement.{statement}
 use Rattle.book.proofs.records.take_constraints.Tie as tie
-use Rattle.book.proofs.records.take_constraints.Reads as reads
-use Rattle.book.proofs.records.take_constraints.Lts as lts
-use Rattle.book.proofs.records.take_constraint.Reads as take-constraint-reads
 
 abbrev Inv-loop : tie.InvT-loop
 Inv-loop image start count atoms at₀ sum₀ i₀ at sum i =
@@ -25,19 +22,15 @@ Inv-loop image start count atoms at₀ sum₀ i₀ at sum i =
 abbrev μ-loop : tie.MeasureT-loop
 μ-loop image start count atoms at₀ sum₀ i₀ at sum i = count - i
 
--- src/records.rt:135:5
 loop-holds : tie.Need-loop-holds Inv-loop μ-loop
 loop-holds c = (search needs, search needs, simp sub-zero)
 
--- src/records.rt:136:15
 take-constraint-requires : tie.Need-take-constraint-requires Inv-loop μ-loop
 take-constraint-requires c κs = omega arith
 
--- src/records.rt:137:26
 enum-known-n : tie.Need-enum-known-n Inv-loop μ-loop
 enum-known-n c = search needs
 
--- src/records.rt:138:17
 returns : tie.Need-returns Inv-loop μ-loop
 returns c =
     sym
@@ -45,19 +38,15 @@ returns c =
     ∙ poured-total-fault _ _ _ _ _ _ _ _ (c .before .before .before .before .loop-test .taken)
     (sym (c .before .before .before .take-constraint .ensures) ∙ ap taken (c .before .n .given .1)))
 
--- src/records.rt:140:26
 enum-known-total : tie.Need-enum-known-total Inv-loop μ-loop
 enum-known-total c = search needs
 
--- src/records.rt:145:9
 add-i : tie.Need-add-i Inv-loop μ-loop
 add-i c = omega arith
 
--- src/records.rt:135:5
 loop-less : tie.Need-loop-less Inv-loop μ-loop
 loop-less c = omega arith
 
--- src/records.rt:135:5
 loop-again : tie.Need-loop-again Inv-loop μ-loop
 loop-again c = (
   omega arith,
@@ -67,7 +56,6 @@ loop-again c = (
       (sym (c .before .before .before .take-constraint .ensures) ∙ ap taken (c .before .total .given .1)),
 )
 
--- src/records.rt:129:1
 returns-2 : tie.Need-returns-2 Inv-loop μ-loop
 returns-2 c =
     sym (c .before .loop .inv .2 ∙ poured-done _ _ _ _ _ _ (c .loop-test .left))

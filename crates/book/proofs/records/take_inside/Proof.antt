@@ -1,8 +1,8 @@
 -- `book::records::take_inside` meets its contract. Assumes nothing.
-use mathlib.Core.Path.{_≡_, sym, ap, _∙_}
-use Prim.Native.Nat.{ℕ, _+_, _*_, _≤_}
+use mathlib.Core.Path.{sym, ap, _∙_}
+use Prim.Native.Nat.{_+_}
 use native.Mathlib.Omega.{arith}
-use Rattle.book.specs.Book.{Constraint, literalCount}
+use Rattle.book.specs.Book.{literalCount}
 use Rattle.book.specs.WalkLaws.{field-found}
 use Rattle.book.specs.FaultLaws.{conditions-fine}
 use Rattle.book.specs.Taking.{taken, seen}
@@ -10,50 +10,36 @@ use Rattle.book.specs.Seen.{lits-ahead, inside-no-count, inside-no-lits,
 use borrow.Author.Needs.{needs}
 use Rattle.book.proofs.records.take_inside.Statement.{statement}
 use Rattle.book.proofs.records.take_inside.Tie as tie
-use Rattle.book.proofs.records.take_inside.Reads as reads
-use Rattle.book.proofs.records.take_inside.Lts as lts
-use Rattle.book.proofs.fields.take_conditions.Reads as take-conditions-reads
-use Rattle.book.proofs.records.take_literals.Reads as take-literals-reads
-use Rattle.book.proofs.records.take_ways.Reads as take-ways-reads
 
--- src/records.rt:108:11
 take-conditions-requires : tie.Need-take-conditions-requires
 take-conditions-requires c κs = search needs
 
--- src/records.rt:109:22
 enum-known-n : tie.Need-enum-known-n
 enum-known-n c = search needs
 
--- src/records.rt:110:22
 enum-known-count : tie.Need-enum-known-count
 enum-known-count c = search needs
 
--- src/records.rt:110:44
 take-literals-requires : tie.Need-take-literals-requires
 take-literals-requires c κs = search needs
 
--- src/records.rt:111:26
 enum-known-n-2 : tie.Need-enum-known-n-2
 enum-known-n-2 c = search needs
 
--- src/records.rt:112:29
 enum-known-ways : tie.Need-enum-known-ways
 enum-known-ways c = search needs
 
--- src/records.rt:112:73
 add-take-ways : tie.Need-add-take-ways
 add-take-ways c =
     let found = field-found _ _ _ _ _ (sym (c .before .before .before .before .before .before .before .take-conditions .ensures) ∙ ap taken (c .before .before .before .before .before .count .given .1)) in
     let few = conditions-fine _ _ _ _ (found .isFine) .1 in
     omega arith
 
--- src/records.rt:112:38
 take-ways-requires : tie.Need-take-ways-requires
 take-ways-requires c κs =
     let found = field-found _ _ _ _ _ (sym (c .before .before .before .before .before .before .before .take-conditions .ensures) ∙ ap taken (c .before .before .before .before .before .count .given .1)) in
     conditions-fine _ _ _ _ (found .isFine) .1
 
--- src/records.rt:104:1
 returns : tie.Need-returns
 returns c =
     λ n h.
@@ -61,7 +47,6 @@ returns c =
     (ap (seen (λ k. c .before .before .before .before .before .args .sum + literalCount k))
     (inside-no-count _ _ _ _ n _ _ (sym (c .before .before .before .take-conditions .ensures) ∙ ap taken (c .before .n .given .1))))
 
--- src/records.rt:104:1
 returns-2 : tie.Need-returns-2
 returns-2 c =
     λ n h.
@@ -71,7 +56,6 @@ returns-2 c =
     (sym (c .before .before .before .before .before .before .before .take-conditions .ensures) ∙ ap taken (c .before .before .before .before .before .count .given .1))
     (sym (c .before .before .before .take-literals .ensures) ∙ ap taken (c .before .n2 .given .1))))
 
--- src/records.rt:104:1
 returns-3 : tie.Need-returns-3
 returns-3 c =
     λ n h.

@@ -1,20 +1,16 @@
 -- `book::records::take_literals` meets its contract. Assumes nothing.
 use Rattle.book.specs.Walk.{found}
-use Rattle.book.specs.Taking.{taken, seen}
+use Rattle.book.specs.Taking.{taken, seen, poured}
 use Rattle.book.specs.Seen.{literal-seen}
-use native.Mathlib.Nat.{sub-zero, le-antisymm}
-use mathlib.Core.Path.{_≡_, refl, sym, ap, _∙_}
-use Prim.Native.Nat.{ℕ, _+_, _-_, _≤_}
+use native.Mathlib.Nat.{sub-zero}
+use mathlib.Core.Path.{_≡_, sym, ap, _∙_}
+use Prim.Native.Nat.{ℕ, _-_, _≤_}
 use native.Mathlib.Omega.{arith}
 use borrow.Author.Needs.{needs}
 use Rattle.book.specs.Decode.{literal}
-use Rattle.book.specs.Taking.{poured}
 use Rattle.book.specs.Pouring.{poured-done, poured-more, poured-fault}
 use Rattle.book.proofs.records.take_literals.Statement.{statement}
 use Rattle.book.proofs.records.take_literals.Tie as tie
-use Rattle.book.proofs.records.take_literals.Reads as reads
-use Rattle.book.proofs.records.take_literals.Lts as lts
-use Rattle.book.proofs.fields.take_literal.Reads as take-literal-reads
 
 abbrev Inv-loop : tie.InvT-loop
 Inv-loop image start count atoms at₀ i₀ at i =
@@ -23,19 +19,15 @@ Inv-loop image start count atoms at₀ i₀ at i =
 abbrev μ-loop : tie.MeasureT-loop
 μ-loop image start count atoms at₀ i₀ at i = count - i
 
--- src/records.rt:22:5
 loop-holds : tie.Need-loop-holds Inv-loop μ-loop
 loop-holds c = (search needs, simp sub-zero)
 
--- src/records.rt:23:15
 take-literal-requires : tie.Need-take-literal-requires Inv-loop μ-loop
 take-literal-requires c κs = search needs
 
--- src/records.rt:24:26
 enum-known-n : tie.Need-enum-known-n Inv-loop μ-loop
 enum-known-n c = search needs
 
--- src/records.rt:25:17
 returns : tie.Need-returns Inv-loop μ-loop
 returns c =
     sym
@@ -43,19 +35,15 @@ returns c =
     ∙ poured-fault _ _ _ _ _ _ _ _ (c .before .before .before .before .loop-test .taken)
     (literal-seen _ _ _ ∙ ap (seen (λ _. 1)) (sym (c .before .before .before .take-literal .ensures) ∙ ap taken (c .before .n .given .1))))
 
--- src/records.rt:27:29
 enum-known-next : tie.Need-enum-known-next Inv-loop μ-loop
 enum-known-next c = search needs
 
--- src/records.rt:31:9
 add-i : tie.Need-add-i Inv-loop μ-loop
 add-i c = omega arith
 
--- src/records.rt:22:5
 loop-less : tie.Need-loop-less Inv-loop μ-loop
 loop-less c = omega arith
 
--- src/records.rt:22:5
 loop-again : tie.Need-loop-again Inv-loop μ-loop
 loop-again c = (
   omega arith,
@@ -64,7 +52,6 @@ loop-again c = (
       (literal-seen _ _ _ ∙ ap (seen (λ _. 1)) (sym (c .before .before .before .take-literal .ensures) ∙ ap taken (c .before .next .given .1))),
 )
 
--- src/records.rt:17:1
 returns-2 : tie.Need-returns-2 Inv-loop μ-loop
 returns-2 c =
     let i : ℕ = c .before .loop .i in

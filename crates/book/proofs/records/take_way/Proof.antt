@@ -6,35 +6,25 @@ use Rattle.book.specs.Seen.{way-no-count, way-seen}
 use borrow.Author.Needs.{needs}
 use Rattle.book.proofs.records.take_way.Statement.{statement}
 use Rattle.book.proofs.records.take_way.Tie as tie
-use Rattle.book.proofs.records.take_way.Reads as reads
-use Rattle.book.proofs.records.take_way.Lts as lts
-use Rattle.book.proofs.fields.take_alternative.Reads as take-alternative-reads
-use Rattle.book.proofs.records.take_literals.Reads as take-literals-reads
 
--- src/records.rt:75:11
 take-alternative-requires : tie.Need-take-alternative-requires
 take-alternative-requires c κs = search needs
 
--- src/records.rt:76:22
 enum-known-n : tie.Need-enum-known-n
 enum-known-n c = search needs
 
--- src/records.rt:77:22
 enum-known-count : tie.Need-enum-known-count
 enum-known-count c = search needs
 
--- src/records.rt:77:38
 take-literals-requires : tie.Need-take-literals-requires
 take-literals-requires c κs = search needs
 
--- src/records.rt:71:1
 returns : tie.Need-returns
 returns c =
     sym
     (ap (seen length)
     (way-no-count _ _ _ _ _ _ (sym (c .before .before .before .take-alternative .ensures) ∙ ap taken (c .before .n .given .1))))
 
--- src/records.rt:71:1
 returns-2 : tie.Need-returns-2
 returns-2 c =
     c .take-literals .ensures

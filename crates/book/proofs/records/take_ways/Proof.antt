@@ -1,6 +1,6 @@
 -- `book::records::take_ways` meets its contract. Assumes nothing.
-use mathlib.Core.Path.{_≡_, sym, ap, _∙_}
-use Prim.Native.Nat.{ℕ, _+_, _-_, _≤_}
+use mathlib.Core.Path.{sym, ap, _∙_}
+use Prim.Native.Nat.{_-_, _≤_}
 use native.Mathlib.Omega.{arith}
 use borrow.Author.Needs.{needs}
 use Rattle.book.specs.Faults.{limits}
@@ -8,9 +8,6 @@ use Rattle.book.specs.Taking.{taken}
 use Rattle.book.specs.Seen.{way-ahead, Onward, onward-start, onward-more, onward-fault, onward-done}
 use Rattle.book.proofs.records.take_ways.Statement.{statement}
 use Rattle.book.proofs.records.take_ways.Tie as tie
-use Rattle.book.proofs.records.take_ways.Reads as reads
-use Rattle.book.proofs.records.take_ways.Lts as lts
-use Rattle.book.proofs.records.take_way.Reads as take-way-reads
 
 abbrev Inv-loop : tie.InvT-loop
 Inv-loop image start end atoms before at₀ sum₀ at sum = (sum ≤ 1024) × Onward image limits atoms end before start sum at
@@ -18,19 +15,15 @@ Inv-loop image start end atoms before at₀ sum₀ at sum = (sum ≤ 1024) × On
 abbrev μ-loop : tie.MeasureT-loop
 μ-loop image start end atoms before at₀ sum₀ at sum = end - at
 
--- src/records.rt:89:5
 loop-holds : tie.Need-loop-holds Inv-loop μ-loop
 loop-holds c = (c .before .pre, onward-start _ _ _ _ _ _)
 
--- src/records.rt:90:15
 take-way-requires : tie.Need-take-way-requires Inv-loop μ-loop
 take-way-requires c κs = c .before .loop .inv .0
 
--- src/records.rt:91:26
 enum-known-n : tie.Need-enum-known-n Inv-loop μ-loop
 enum-known-n c = search needs
 
--- src/records.rt:92:17
 returns : tie.Need-returns Inv-loop μ-loop
 returns c =
     λ n h.
@@ -38,23 +31,19 @@ returns c =
     (onward-fault _ _ _ _ _ _ _ _ _ _ (c .before .before .before .before .before .loop .inv .1) (c .before .before .before .before .loop-test .taken)
     (sym (c .before .before .before .take-way .ensures) ∙ ap taken (c .before .n .given .1)) n h)
 
--- src/records.rt:94:26
 enum-known-literals : tie.Need-enum-known-literals Inv-loop μ-loop
 enum-known-literals c = search needs
 
--- src/records.rt:95:17
 add-sum : tie.Need-add-sum Inv-loop μ-loop
 add-sum c =
     let on = way-ahead _ _ _ _ _ _ _ _ (sym (c .before .before .before .take-way .ensures) ∙ ap taken (c .before .literals .given .1)) .fits in
     omega arith
 
--- src/records.rt:89:5
 loop-less : tie.Need-loop-less Inv-loop μ-loop
 loop-less c =
     let on = way-ahead _ _ _ _ _ _ _ _ (sym (c .before .before .before .take-way .ensures) ∙ ap taken (c .before .literals .given .1)) in
     omega arith
 
--- src/records.rt:89:5
 loop-again : tie.Need-loop-again Inv-loop μ-loop
 loop-again c = (
   way-ahead _ _ _ _ _ _ _ _ (sym (c .before .before .before .take-way .ensures) ∙ ap taken (c .before .literals .given .1)) .fits,
@@ -62,7 +51,6 @@ loop-again c = (
       (sym (c .before .before .before .take-way .ensures) ∙ ap taken (c .before .literals .given .1)),
 )
 
--- src/records.rt:83:1
 returns-2 : tie.Need-returns-2 Inv-loop μ-loop
 returns-2 c =
     λ n h. sym (onward-done _ _ _ _ _ _ _ _ (c .before .loop .inv .1) (c .loop-test .left) n h)

@@ -1,0 +1,47 @@
+-- `book::walk::take_all_clauses` meets its contract. Assumes nothing.
+use mathlib.Core.Path.{sym, ap, _∙_}
+use Prim.Native.Nat.{_+_}
+use Rattle.base.specs.Lists.{sum}
+use Rattle.book.specs.Book.{bodyCount}
+use Rattle.book.specs.Taking.{taken, seen, poured}
+use Rattle.book.specs.SeenBook.{counted-no-count, counted-on}
+use borrow.Author.Needs.{needs}
+use Rattle.book.proofs.walk.take_all_clauses.Statement.{statement}
+use Rattle.book.proofs.walk.take_all_clauses.Tie as tie
+
+take-count-requires : tie.Need-take-count-requires
+take-count-requires c κs = search needs
+
+enum-known-n : tie.Need-enum-known-n
+enum-known-n c = search needs
+
+enum-known-count : tie.Need-enum-known-count
+enum-known-count c = search needs
+
+take-clauses-requires : tie.Need-take-clauses-requires
+take-clauses-requires c κs = search needs
+
+returns : tie.Need-returns
+returns c =
+    sym
+    (ap (seen (λ cs. 0 + sum bodyCount cs))
+    (counted-no-count _ _ _ _ (sym (c .before .before .before .take-count .ensures) ∙ ap taken (c .before .n .given .1))))
+
+returns-2 : tie.Need-returns-2
+unfolding poured
+returns-2 c =
+    c .take-clauses .ensures
+    ∙ sym
+    (ap (seen (λ cs. 0 + sum bodyCount cs))
+    (counted-on _ _ _ _ (sym (c .before .before .before .before .take-count .ensures) ∙ ap taken (c .before .before .count .given .1))))
+
+pub take-all-clauses-spec : {M : Type 1} → statement M
+take-all-clauses-spec =
+    tie.close
+    (tie.spec
+    take-count-requires
+    enum-known-n
+    enum-known-count
+    take-clauses-requires
+    returns
+    returns-2)

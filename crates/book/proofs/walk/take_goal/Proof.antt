@@ -1,0 +1,46 @@
+-- `book::walk::take_goal` meets its contract. Assumes nothing.
+use mathlib.Core.Path.{sym, ap, _∙_}
+use Prim.Native.Nat.{_+_}
+use Rattle.base.specs.Lists.{sum}
+use Rattle.book.specs.Taking.{taken, seen, poured}
+use Rattle.book.specs.SeenBook.{counted-no-count, counted-on}
+use borrow.Author.Needs.{needs}
+use Rattle.book.proofs.walk.take_goal.Statement.{statement}
+use Rattle.book.proofs.walk.take_goal.Tie as tie
+
+take-count-requires : tie.Need-take-count-requires
+take-count-requires c κs = search needs
+
+enum-known-n : tie.Need-enum-known-n
+enum-known-n c = search needs
+
+enum-known-count : tie.Need-enum-known-count
+enum-known-count c = search needs
+
+take-literals-requires : tie.Need-take-literals-requires
+take-literals-requires c κs = search needs
+
+returns : tie.Need-returns
+returns c =
+    sym
+    (ap (seen (λ ls. 0 + sum (λ _. 1) ls))
+    (counted-no-count _ _ _ _ (sym (c .before .before .before .take-count .ensures) ∙ ap taken (c .before .n .given .1))))
+
+returns-2 : tie.Need-returns-2
+unfolding poured
+returns-2 c =
+    c .take-literals .ensures
+    ∙ sym
+    (ap (seen (λ ls. 0 + sum (λ _. 1) ls))
+    (counted-on _ _ _ _ (sym (c .before .before .before .before .take-count .ensures) ∙ ap taken (c .before .before .count .given .1))))
+
+pub take-goal-spec : {M : Type 1} → statement M
+take-goal-spec =
+    tie.close
+    (tie.spec
+    take-count-requires
+    enum-known-n
+    enum-known-count
+    take-literals-requires
+    returns
+    returns-2)
