@@ -1,0 +1,90 @@
+// A test driver over the engine. It reads cases from standard input until that ends, and writes a line for each. A case is
+// an operation byte and what that operation takes; all numbers are big-endian, and an image is its length in four bytes and
+// then its bytes, at most 16,384. Before each call every list entry is 7. Anything malformed ends the run with the line
+// `bad case`.
+//
+//   1 read    image                                             accepted | refused R
+//   5 join    two counts with their sets, room (two bytes)      joined K | refused R, then ` sets` and the room's entries
+
+mod input;
+mod output;
+
+use book::Reading;
+use sets::Joined;
+
+fn read(image: &[u8]) {
+    match book::read(image) {
+        Reading::Accepted => output::line(b"accepted"),
+        Reading::Refused(r) => output::numbered(b"refused ", r as u64),
+    }
+}
+
+fn read_case() -> bool {
+    let mut image = input::image_buffer();
+    let taken = input::take_image(&mut image);
+    if !taken.ok {
+        return false;
+    }
+    let n = taken.value;
+    read(&image[..n]);
+    true
+}
+
+fn join(left: &[u64], right: &[u64], out: &mut [u64]) {
+    match sets::join(left, right, out) {
+        Joined::Count(k) => output::count(b"joined ", k as u64),
+        Joined::Refused(r) => output::count(b"refused ", r as u64),
+    }
+    output::entries(out);
+}
+
+fn join_case() -> bool {
+    let mut left = input::list_buffer();
+    let mut right = input::list_buffer();
+    let mut out = input::list_buffer();
+    let n = input::take_list(&mut left);
+    let m = input::take_list(&mut right);
+    let room = input::take_room(1100);
+    if !n.ok {
+        return false;
+    }
+    if !m.ok {
+        return false;
+    }
+    if !room.ok {
+        return false;
+    }
+    let a = n.value;
+    let b = m.value;
+    let c = room.value;
+    join(&left[..a], &right[..b], &mut out[..c]);
+    true
+}
+
+// The case of this operation, and whether it was well formed.
+fn answered(operation: u64) -> bool {
+    match operation {
+        1 => read_case(),
+        5 => join_case(),
+        _ => false,
+    }
+}
+
+fn bad_case() {
+    output::line(b"bad case");
+}
+
+fn main() {
+    let mut n: u32 = 0;
+    while n < 1_000_000_000 {
+        let operation = input::take_u8();
+        if !operation.ok {
+            return;
+        }
+        if !answered(operation.value) {
+            bad_case();
+            return;
+        }
+        n += 1;
+    }
+}

@@ -1,0 +1,166 @@
+"""Cases as bytes, and the line that `replay` prints for each.
+
+Written from the specification alone; shares no code with the engine.
+
+    python3 answers.py < cases > lines
+
+answers a whole run of cases.
+"""
+
+import sys
+
+from joiner import join
+from judge import judge
+from reader import Book, read
+from search import listing, verdict
+
+LONGEST_CASE_IMAGE = 16384
+MOST_ROOM = 1100
+MOST_WORK = 20000
+
+
+class BadCase(Exception):
+    """A case that is not well formed."""
+
+
+# Packing.
+
+def pack_image(image):
+    return len(image).to_bytes(4, "big") + image
+
+
+def pack_sets(sets):
+    return len(sets).to_bytes(2, "big") + b"".join(s.to_bytes(8, "big") for s in sets)
+
+
+def pack_read(image):
+    return b"\x01" + pack_image(image)
+
+
+def pack_judge(image, assumed):
+    return b"\x02" + pack_image(image) + assumed.to_bytes(8, "big")
+
+
+def pack_means(budget, room, work_length):
+    return budget.to_bytes(4, "big") + room.to_bytes(2, "big") + work_length.to_bytes(4, "big")
+
+
+def pack_list(image, budget, room, work_length):
+    return b"\x03" + pack_image(image) + pack_means(budget, room, work_length)
+
+
+def pack_verdict(image, hypothesis, budget, room, work_length):
+    means = pack_means(budget, room, work_length)
+    return b"\x04" + pack_image(image) + hypothesis.to_bytes(4, "big") + means
+
+
+def pack_join(left, right, room):
+    return b"\x05" + pack_sets(left) + pack_sets(right) + room.to_bytes(2, "big")
+
+
+# The line of each operation.
+
+def line_read(image):
+    book = read(image)
+    return "accepted" if isinstance(book, Book) else f"refused {book}"
+
+
+def line_judge(image, assumed):
+    return " ".join(str(part) for part in judge(image, assumed))
+
+
+def line_list(image, budget, room, work_length):
+    return result_line(listing(image, budget, room, work_length))
+
+
+def line_verdict(image, hypothesis, budget, room, work_length):
+    return result_line(verdict(image, hypothesis, budget, room, work_length))
+
+
+def line_join(left, right, room):
+    answer, entries = join(left, right, room)
+    return " ".join(str(part) for part in (*answer, "sets", *entries))
+
+
+def result_line(result):
+    """The line of a search: answer, node number, list, work area."""
+    parts = (*result.answer, "nodes", result.nodes, "sets", *result.entries, "work", result.work)
+    return " ".join(str(part) for part in parts)
+
+
+# Unpacking.
+
+class Cases:
+    """A run of cases, taken from the front."""
+
+    def __init__(self, data):
+        self.data = data
+        self.at = 0
+
+    def ended(self):
+        return self.at == len(self.data)
+
+    def take(self, count):
+        if self.at + count > len(self.data):
+            raise BadCase
+        self.at += count
+        return self.data[self.at - count:self.at]
+
+    def number(self, count, most=None):
+        value = int.from_bytes(self.take(count), "big")
+        if most is not None and value > most:
+            raise BadCase
+        return value
+
+    def image(self):
+        return self.take(self.number(4, LONGEST_CASE_IMAGE))
+
+    def sets(self):
+        return [self.number(8) for _ in range(self.number(2, MOST_ROOM))]
+
+    def means(self):
+        return self.number(4), self.number(2, MOST_ROOM), self.number(4, MOST_WORK)
+
+    def line(self):
+        """The line of the next case."""
+        operation = self.number(1)
+        if operation == 1:
+            return line_read(self.image())
+        if operation == 2:
+            return line_judge(self.image(), self.number(8))
+        if operation == 3:
+            return line_list(self.image(), *self.means())
+        if operation == 4:
+            return line_verdict(self.image(), self.number(4), *self.means())
+        if operation == 5:
+            return line_join(self.sets(), self.sets(), self.number(2, MOST_ROOM))
+        raise BadCase
+
+
+def line(case):
+    """The line of one packed case."""
+    cases = Cases(case)
+    answer = cases.line()
+    if not cases.ended():
+        raise BadCase
+    return answer
+
+
+def lines(data):
+    """The lines of a whole run; a malformed case ends it."""
+    cases = Cases(data)
+    while not cases.ended():
+        try:
+            yield cases.line()
+        except BadCase:
+            yield "bad case"
+            return
+
+
+def main():
+    for answer in lines(sys.stdin.buffer.read()):
+        print(answer)
+
+
+if __name__ == "__main__":
+    main()

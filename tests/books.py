@@ -1,0 +1,62 @@
+"""Books that several tables of stored cases use.
+
+Written from the specification alone; shares no code with the engine.
+The specification takes the books of P5 and P6 from another document, which is
+not used here; the books below give the lists and node numbers it states.
+"""
+
+from notation import image, raw, rest
+
+P1 = raw("01 00000028 0005 0003 0001 0006 0003 0004 0003 0000 0004 0003 0002 0004 0003 0004 "
+         "0001 0008 0001 0004 0001 0008")
+P5 = image("abducible rain sprinkler cloudy; goal wet; wet <- rain; wet <- sprinkler; "
+           "rain -> cloudy; cloudy ->")
+P6 = image("abducible a b; p <-; q <- a; q <- b; p -> q")
+P6_WITH_GOAL = image("abducible a b; goal p; p <-; q <- a; q <- b; p -> q")
+P7 = rest("0001 0000 0000 0000 0000")
+P8 = image("abducible a b; goal x; x <- a b; x <- a")
+P9 = image("abducible a b; goal x; x <- a b; x <- -a -b")
+P10 = image("abducible a b; p <- a; p ->; -> a")
+P11 = image("abducible saturday snow; goal campus; campus <- -ski; ski <- saturday -snow")
+
+# An image for each refusal of the reader.
+REFUSED = [
+    (1, raw("01 0000")),
+    (2, raw("02 0000000a 0001 0000 0000 0000 0000")),
+    (3, raw("01 0000000b 0001 0000 0000 0000 0000")),
+    (4, rest("0001 0000 0000 0000 0000 00")),
+    (5, rest("0101 0000 0000 0000 0000")),
+    (6, rest("0001 0000 0001 0002 0000 0000")),
+    (7, rest("0001 0001 0000 0001 0002 0000 0000")),
+    (8, rest("0001 0000 0000 0000 0001 0004 0000 0000")),
+    (9, rest("0001 0000 0000 0001 0004 0000 0000 0000")),
+]
+
+# 250 layers of two mentions above an abducible.
+LAYERS = image("abducible a; goal p250; p0 <- a; " + "; ".join(f"p{i + 1} <- p{i} p{i}" for i in range(250)))
+
+# A chain of 255 atoms above an abducible, each from the negation of the next.
+NEGATIONS = image("abducible a; goal p254; p0 <- -a; " + "; ".join(f"p{i + 1} <- -p{i}" for i in range(254)))
+
+
+def pairs(count):
+    """So many atoms wanted, each from one of two abducibles: 2^count smallest sets."""
+    names = range(count)
+    return image(
+        "abducible " + " ".join(f"a{i} b{i}" for i in names)
+        + "; goal " + " ".join(f"x{i}" for i in names)
+        + "".join(f"; x{i} <- a{i}; x{i} <- b{i}" for i in names)
+    )
+
+
+def facts(counts):
+    """Atoms wanted in a row, each so many times a fact: a wide search for the empty set."""
+    return image(
+        "goal " + " ".join(f"x{i}" for i in range(len(counts)))
+        + "".join(f"; x{i} <-" * count for i, count in enumerate(counts))
+    )
+
+
+def abducibles(count):
+    """The statement that declares so many abducibles a0, a1 and on."""
+    return "abducible " + " ".join(f"a{i}" for i in range(count)) + "; "

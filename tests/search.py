@@ -1,0 +1,183 @@
+"""The lister of all smallest explanations and the verdict on one hypothesis.
+
+Written from the specification alone; shares no code with the engine.
+
+A node is (agenda, T, F). The agenda is a linked list: None, or (task, rest).
+T and F are sets of atoms as numbers: atom p is 2^p. A task is either a want,
+which is a literal, or a choice: a tuple of lists of wants, one list per child.
+A break and a constraint are choices.
+"""
+
+from dataclasses import dataclass
+
+from judge import explains
+from reader import Book, read
+
+MOST_ENTRIES = 1024
+WORK_NUMBERS = 16384
+MOST_BUDGET = 1_000_000
+LIST_BEFORE = 7  # what every list entry holds before a call
+
+
+@dataclass
+class Result:
+    """What a search answers and leaves: answer, node number, list, work area."""
+
+    answer: tuple
+    nodes: int
+    entries: list
+    work: str
+
+
+def listing(image, budget, room, work_length):
+    """The lister: ('listed', K) or ('refused', number), and what it leaves."""
+    book, number = admitted(image, budget, room, work_length)
+    if number:
+        return untouched(number, room)
+    return searched(book, budget, room)
+
+
+def verdict(image, hypothesis, budget, room, work_length):
+    """The verdict: a word as ('needed',), or ('refused', number)."""
+    book, number = admitted(image, budget, room, work_length)
+    if not number and hypothesis >= book.abducibles:
+        number = 23
+    if number:
+        return untouched(number, room)
+    result = searched(book, budget, room)
+    word, count = result.answer
+    if word == "listed":
+        result.answer = (verdict_word(result.entries[:count], hypothesis),)
+    return result
+
+
+def verdict_word(sets, hypothesis):
+    """The verdict on the hypothesis, given the smallest sets."""
+    having = sum(s >> hypothesis & 1 for s in sets)
+    if not sets:
+        return "unexplained"
+    if having == len(sets):
+        return "needed"
+    return "possible" if having else "ruled out"
+
+
+def admitted(image, budget, room, work_length):
+    """(book, 0), or (None, number) for a refusal 1 to 22."""
+    book = read(image)
+    if not isinstance(book, Book):
+        return None, book
+    if room > MOST_ENTRIES:
+        return None, 20
+    if work_length < WORK_NUMBERS:
+        return None, 21
+    if budget > MOST_BUDGET:
+        return None, 22
+    return book, 0
+
+
+def untouched(number, room):
+    """A refusal before any search: nothing written, no node."""
+    return Result(("refused", number), 0, [LIST_BEFORE] * room, "untouched")
+
+
+def searched(book, budget, room):
+    """A search, finished or not, with the list it leaves."""
+    number, nodes, kept = explore(book, budget, room)
+    if number:
+        return Result(("refused", number), nodes, [0] * room, "clean")
+    entries = in_order(kept) + [0] * (room - len(kept))
+    return Result(("listed", len(kept)), nodes, entries, "clean")
+
+
+def in_order(sets):
+    """Sets by number of members, then by value as a number."""
+    return sorted(sets, key=lambda s: (s.bit_count(), s))
+
+
+def opposite(literal):
+    return literal ^ 1
+
+
+def break_task(clause):
+    """Break c: a child per body literal, its opposite wanted."""
+    return tuple((opposite(literal),) for literal in clause.body)
+
+
+def constraint_task(constraint):
+    """A child per condition literal, its opposite wanted; then one per alternative."""
+    denied = tuple((opposite(literal),) for literal in constraint.conditions)
+    return denied + constraint.alternatives
+
+
+def in_front(tasks, agenda):
+    """The agenda with these tasks, in order, in front of it."""
+    for task in reversed(tasks):
+        agenda = (task, agenda)
+    return agenda
+
+
+def explore(book, budget, room):
+    """Visit the search tree: (refusal or 0, nodes visited, kept sets)."""
+    clauses = [[c for c in book.clauses if c.head == p] for p in range(book.atoms)]
+    bodies = [[c.body for c in of_p] for of_p in clauses]
+    breaks = [[break_task(c) for c in of_p] for of_p in clauses]
+    abducible = book.abducibles
+    all_abducibles = (1 << abducible) - 1
+    root = in_front(book.goal + tuple(map(constraint_task, book.constraints)), None)
+
+    kept = []
+    nodes = 0
+    due = [(root, 0, 0)]  # the next node due is the last
+    while due:
+        if nodes == budget:
+            return 30, nodes, []
+        agenda, true, false = due.pop()
+        nodes += 1
+        if agenda is None:
+            kept = keep(kept, true & all_abducibles)
+            if len(kept) > room:
+                return 31, nodes, []
+            continue
+        task, rest = agenda
+        if type(task) is tuple:
+            for wants in reversed(task):
+                due.append((in_front(wants, rest), true, false))
+            continue
+        p = task >> 1
+        atom = 1 << p
+        if task & 1 == 0:  # want p true
+            if false & atom:
+                continue
+            if true & atom:
+                due.append((rest, true, false))
+            elif p < abducible:
+                due.append((rest, true | atom, false))
+            else:
+                for body in reversed(bodies[p]):
+                    due.append((in_front(body, rest), true | atom, false))
+        else:  # want p false
+            if true & atom:
+                continue
+            if false & atom:
+                due.append((rest, true, false))
+            elif p < abducible:
+                due.append((rest, true, false | atom))
+            else:
+                due.append((in_front(breaks[p], rest), true, false | atom))
+    return 0, nodes, kept
+
+
+def keep(kept, s):
+    """The kept sets after a success with s."""
+    for k in kept:
+        if k & s == k:
+            return kept
+    return [k for k in kept if k & s != s] + [s]
+
+
+def smallest_by_trying(book):
+    """The smallest explaining sets in order, by trying every set of abducibles."""
+    explaining = [s for s in range(1 << book.abducibles) if explains(book, s)]
+    return in_order(
+        s for s in explaining if not any(t != s and t & s == t for t in explaining)
+    )
