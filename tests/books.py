@@ -1,8 +1,8 @@
 """Books that several tables of stored cases use.
 
 Written from the specification alone; shares no code with the engine.
-The specification takes the books of P5 and P6 from another document, which is
-not used here; the books below give the lists and node numbers it states.
+The books of P5 and P6 are examples 5 and 6 of the document that the
+specification names for its meaning.
 """
 
 from notation import image, raw, rest
@@ -11,8 +11,9 @@ P1 = raw("01 00000028 0005 0003 0001 0006 0003 0004 0003 0000 0004 0003 0002 000
          "0001 0008 0001 0004 0001 0008")
 P5 = image("abducible rain sprinkler cloudy; goal wet; wet <- rain; wet <- sprinkler; "
            "rain -> cloudy; cloudy ->")
-P6 = image("abducible a b; p <-; q <- a; q <- b; p -> q")
-P6_WITH_GOAL = image("abducible a b; goal p; p <-; q <- a; q <- b; p -> q")
+P6 = image("abducible a b; goal p; p <- -q; q <- -r; r <- a; r <- b")
+FACT_AND_RULE = image("abducible a b; p <-; q <- a; q <- b; p -> q")
+FACT_AND_RULE_WITH_GOAL = image("abducible a b; goal p; p <-; q <- a; q <- b; p -> q")
 P7 = rest("0001 0000 0000 0000 0000")
 P8 = image("abducible a b; goal x; x <- a b; x <- a")
 P9 = image("abducible a b; goal x; x <- a b; x <- -a -b")

@@ -15,8 +15,9 @@ WORDS = {"e": "explains", "g": "goal", "c": "constraint", "r": "refused"}
 ALL_SETS = [
     ("P1", books.P1, "g0 e e e c0 c0 c0 c0"),
     ("P5", books.P5, "g0 c0 e c0 g0 c1 c1 c1"),
-    ("P6", books.P6, "c0 e e e"),
-    ("P6 with a goal", books.P6_WITH_GOAL, "c0 e e e"),
+    ("P6", books.P6, "g0 e e e"),
+    ("a fact and a rule", books.FACT_AND_RULE, "c0 e e e"),
+    ("a fact and a rule with a goal", books.FACT_AND_RULE_WITH_GOAL, "c0 e e e"),
     ("P7", books.P7, "e r23 r23"),
     ("P8", books.P8, "g0 e g0 e"),
     ("P9", books.P9, "e g0 g0 e"),

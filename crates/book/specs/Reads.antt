@@ -2,7 +2,7 @@
 -- it. Both ways, for each walk of `Decode` but the whole book, which is `Written`'s.
 -- Assumes nothing.
 use Prim.Native.Nat.{ℕ, zero, suc, _+_, _-_, _*_, _/_, _%_, _≤_, _<_}
-use mathlib.Core.Path.{_≡_, refl, sym, ap, _∙_, subst}
+use mathlib.Core.Path.{_≡_, refl, sym, ap, _∙_, subst, subst₂}
 use mathlib.Core.Bool.{Bool, true, false}
 use mathlib.Core.List.{List, [], _∷_, _++_}
 use native.Mathlib.Omega.{arith}
@@ -13,7 +13,7 @@ use Rattle.base.specs.Bools.{choose, choose-true, choose-false}
 use Rattle.base.specs.Lists.{Every, every-none, every-more, every-first, every-rest, flat, sum}
 use Rattle.book.specs.Book.{Lit, Clause, Constraint, bodyCount, literalCount}
 use Rattle.book.specs.Walk.{Step, found, fault, Walk, after, give, field, running, times, Finding, fine}
-use Rattle.book.specs.WalkLaws.{field-found, fielded, never}
+use Rattle.book.specs.WalkLaws.{Fielded, field-found, fielded, never}
 use Rattle.book.specs.Faults.{Limits, wrongLit, wrongHead, wrongSize, wrongClause, wrongConditions, wrongAlternative, bodyOf}
 use Rattle.book.specs.FaultLaws.{lit-fine, fine-lit, head-fine, fine-head, size-fine, fine-size, clause-fine, fine-clause, conditions-fine, fine-conditions, alternative-fine, fine-alternative}
 use Rattle.book.specs.Decode.{litOf, literal, clause, alternative, alternatives, inside, constraint}
@@ -236,35 +236,39 @@ reads-clause s most atoms abducibles total = record { finds = finds; reads = rea
     fromHead : ℕ → Walk Clause
     fromHead size at = after (field s (wrongHead atoms abducibles) at) (fromBody size)
 
+    parts : (at size at₁ head at₂ : ℕ) (ls : List Lit) (next : ℕ) → Fielded s (sizes at) at size at₁ → Fielded s (wrongHead atoms abducibles) at₁ head at₂
+        → Read s ofLits (Literals atoms (bodyOf size)) at₂ ls next
+        → Read s ofClause (ClauseFits (most .bodies) atoms abducibles total) at (record { head = head; body = ls }) next
+    parts at size at₁ head at₂ ls next sizeAt headAt bodyAt =
+        let sized = clause-fine (length s - (at + 2)) (most .bodies) total size (sizeAt .isFine) in
+        let headed = head-fine atoms abducibles head (headAt .isFine) in
+        let even : size % 2 ≡ 0 = sized .sized .even in
+        let some : 2 ≤ size = sized .sized .some in
+        let count : length ls ≡ size / 2 - 1 = bodyAt .isFine .count in
+        let lits : length (ofLits ls) ≡ length ls = length-lits ls in
+        let b₁ : at₁ ≡ at + 2 = sizeAt .behind in
+        let b₂ : at₂ ≡ at₁ + 2 = headAt .behind in
+        let b₃ : next ≡ at₂ + 2 * length (ofLits ls) = bodyAt .behind in
+        let fits : total + (size / 2 - 1) ≤ most .bodies = sized .total in
+        let value : size ≡ 2 * suc (length (ofLits ls)) = omega arith in
+        record {
+          stands =
+              more (sizeAt .there) (sizeAt .value ∙ value)
+              (stands-at b₁ (more (headAt .there) (headAt .value) (stands-at b₂ (bodyAt .stands))));
+          isFine = record { isFine = record { known = headed .0; defined = headed .1; named = bodyAt .isFine .named }; fits = omega arith };
+          behind = omega arith;
+        }
+
     finds : (at : ℕ) (c : Clause) (next : ℕ) → after (field s (sizes at) at) fromHead ≡ found c next
         → Read s ofClause (ClauseFits (most .bodies) atoms abducibles total) at c next
     finds at c next e =
         let f = after-found (field s (sizes at) at) fromHead c next e in
         let g = after-found (field s (wrongHead atoms abducibles) (f .1)) (fromBody (f .0)) c next (f .3) in
         let h = after-found (times (literal s atoms) (bodyOf (f .0)) (g .1)) (made (g .0)) c next (g .3) in
-        let sizeAt = field-found s (sizes at) at (f .0) (f .1) (f .2) in
-        let headAt = field-found s (wrongHead atoms abducibles) (f .1) (g .0) (g .1) (g .2) in
-        let bodyAt = reads-literals s atoms (bodyOf (f .0)) .finds (g .1) (h .0) (h .1) (h .2) in
-        let sized = clause-fine (length s - (at + 2)) (most .bodies) total (f .0) (sizeAt .isFine) in
-        let headed = head-fine atoms abducibles (g .0) (headAt .isFine) in
-        let even : f .0 % 2 ≡ 0 = sized .sized .even in
-        let some : 2 ≤ f .0 = sized .sized .some in
-        let count : length (h .0) ≡ f .0 / 2 - 1 = bodyAt .isFine .count in
-        let lits : length (ofLits (h .0)) ≡ length (h .0) = length-lits (h .0) in
-        let b₁ : f .1 ≡ at + 2 = sizeAt .behind in
-        let b₂ : g .1 ≡ f .1 + 2 = headAt .behind in
-        let b₃ : h .1 ≡ g .1 + 2 * length (ofLits (h .0)) = bodyAt .behind in
-        let is : record { head = g .0; body = h .0 } ≡ c = cc (h .3) in
-        let on : h .1 ≡ next = cc (h .3) in
-        let fits : total + (f .0 / 2 - 1) ≤ most .bodies = sized .total in
-        subst (λ (d : Clause). Read s ofClause (ClauseFits (most .bodies) atoms abducibles total) at d next) is
-        (record {
-          stands =
-              more (sizeAt .there) (sizeAt .value ∙ omega arith)
-              (stands-at b₁ (more (headAt .there) (headAt .value) (stands-at b₂ (bodyAt .stands))));
-          isFine = record { isFine = record { known = headed .0; defined = headed .1; named = bodyAt .isFine .named }; fits = omega arith };
-          behind = omega arith;
-        })
+        subst₂ (λ (d : Clause) (m : ℕ). Read s ofClause (ClauseFits (most .bodies) atoms abducibles total) at d m) (cc (h .3)) (cc (h .3))
+        (parts at (f .0) (f .1) (g .0) (g .1) (h .0) (h .1) (field-found s (sizes at) at (f .0) (f .1) (f .2))
+        (field-found s (wrongHead atoms abducibles) (f .1) (g .0) (g .1) (g .2))
+        (reads-literals s atoms (bodyOf (f .0)) .finds (g .1) (h .0) (h .1) (h .2)))
 
     reads : (at : ℕ) (c : Clause) (next : ℕ) → Read s ofClause (ClauseFits (most .bodies) atoms abducibles total) at c next
         → after (field s (sizes at) at) fromHead ≡ found c next
@@ -481,6 +485,39 @@ reads-constraint s most atoms total = record { finds = finds; reads = reads }
     fromCount : ℕ → Walk Constraint
     fromCount size at = after (field s (counts size at) at) (fromLits size (at + size))
 
+    parts : (at size at₁ count at₂ : ℕ) (ls : List Lit) (at₃ : ℕ) (ways : List (List Lit)) (next : ℕ) → Fielded s (sizes at) at size at₁
+        → Fielded s (counts size at₁) at₁ count at₂ → Read s ofLits (Literals atoms count) at₂ ls at₃
+        → alternatives s most atoms (at₁ + size) (size / 2) (total + count) at₃ ≡ found ways next
+        → Read s ofConstraint (ConstraintFits (most .literals) atoms total) at (record { conditions = ls; alternatives = ways }) next
+    parts at size at₁ count at₂ ls at₃ ways next sizeAt countAt litsAt e =
+        let sized = size-fine (length s - (at + 2)) size (sizeAt .isFine) in
+        let counted = conditions-fine (at₁ + size - (at₁ + 2)) (most .literals) total count (countAt .isFine) in
+        let some : 2 ≤ size = sized .some in
+        let even : size % 2 ≡ 0 = sized .even in
+        let c₁ : 2 * count ≤ at₁ + size - (at₁ + 2) = counted .0 in
+        let c₂ : total + count ≤ most .literals = counted .1 in
+        let n : length ls ≡ count = litsAt .isFine .count in
+        let lits : length (ofLits ls) ≡ length ls = length-lits ls in
+        let b₁ : at₁ ≡ at + 2 = sizeAt .behind in
+        let b₂ : at₂ ≡ at₁ + 2 = countAt .behind in
+        let b₃ : at₃ ≡ at₂ + 2 * length (ofLits ls) = litsAt .behind in
+        let waysAt = alternatives-finds s most atoms (at₁ + size) (size / 2) (total + count) at₃ ways next e (omega arith) (omega arith) c₂ in
+        let b₄ : at₁ + size ≡ at₃ + 2 * length (flat ofAlternative ways) = waysAt .0 .ends in
+        let t : total + count + sum length ways ≤ most .literals = waysAt .0 .fits in
+        let over : next ≡ at₁ + size = waysAt .1 in
+        let inner : List ℕ = ofAlternative ls ++ flat ofAlternative ways in
+        let long : length inner ≡ length (ofAlternative ls) + length (flat ofAlternative ways) = length-append (ofAlternative ls) (flat ofAlternative ways) in
+        let value : size ≡ 2 * length inner = omega arith in
+        record {
+          stands =
+              more (sizeAt .there) (sizeAt .value ∙ value)
+              (stands-join {xs = ofAlternative ls}
+              (stands-at b₁ (more (countAt .there) (countAt .value ∙ sym n) (stands-at b₂ (litsAt .stands))))
+              (stands-at (omega arith) (waysAt .0 .stands)));
+          isFine = record { isFine = record { named = litsAt .isFine .named; ways = waysAt .0 .isFine }; fits = omega arith };
+          behind = omega arith;
+        }
+
     finds : (at : ℕ) (k : Constraint) (next : ℕ) → after (field s (sizes at) at) fromCount ≡ found k next
         → Read s ofConstraint (ConstraintFits (most .literals) atoms total) at k next
     finds at k next e =
@@ -490,38 +527,10 @@ reads-constraint s most atoms total = record { finds = finds; reads = reads }
         after-found (times (literal s atoms) (g .0) (g .1))
         (λ ls at′. after (alternatives s most atoms (f .1 + f .0) (f .0 / 2) (total + g .0) at′) (made ls)) k next (g .3) in
         let j = after-found (alternatives s most atoms (f .1 + f .0) (f .0 / 2) (total + g .0) (h .1)) (made (h .0)) k next (h .3) in
-        let sizeAt = field-found s (sizes at) at (f .0) (f .1) (f .2) in
-        let countAt = field-found s (counts (f .0) (f .1)) (f .1) (g .0) (g .1) (g .2) in
-        let litsAt = reads-literals s atoms (g .0) .finds (g .1) (h .0) (h .1) (h .2) in
-        let sized = size-fine (length s - (at + 2)) (f .0) (sizeAt .isFine) in
-        let counted = conditions-fine (f .1 + f .0 - (f .1 + 2)) (most .literals) total (g .0) (countAt .isFine) in
-        let some : 2 ≤ f .0 = sized .some in
-        let even : f .0 % 2 ≡ 0 = sized .even in
-        let c₁ : 2 * g .0 ≤ f .1 + f .0 - (f .1 + 2) = counted .0 in
-        let c₂ : total + g .0 ≤ most .literals = counted .1 in
-        let n : length (h .0) ≡ g .0 = litsAt .isFine .count in
-        let lits : length (ofLits (h .0)) ≡ length (h .0) = length-lits (h .0) in
-        let b₁ : f .1 ≡ at + 2 = sizeAt .behind in
-        let b₂ : g .1 ≡ f .1 + 2 = countAt .behind in
-        let b₃ : h .1 ≡ g .1 + 2 * length (ofLits (h .0)) = litsAt .behind in
-        let waysAt =
-        alternatives-finds s most atoms (f .1 + f .0) (f .0 / 2) (total + g .0) (h .1) (j .0) (j .1) (j .2) (omega arith) (omega arith) c₂ in
-        let b₄ : f .1 + f .0 ≡ h .1 + 2 * length (flat ofAlternative (j .0)) = waysAt .0 .ends in
-        let t : total + g .0 + sum length (j .0) ≤ most .literals = waysAt .0 .fits in
-        let over : j .1 ≡ f .1 + f .0 = waysAt .1 in
-        let is : record { conditions = h .0; alternatives = j .0 } ≡ k = cc (j .3) in
-        let on : j .1 ≡ next = cc (j .3) in
-        let long = length-append (ofAlternative (h .0)) (flat ofAlternative (j .0)) in
-        subst (λ (k′ : Constraint). Read s ofConstraint (ConstraintFits (most .literals) atoms total) at k′ next) is
-        (record {
-          stands =
-              more (sizeAt .there) (sizeAt .value ∙ omega arith)
-              (stands-join {xs = ofAlternative (h .0)}
-              (stands-at b₁ (more (countAt .there) (countAt .value ∙ sym n) (stands-at b₂ (litsAt .stands))))
-              (stands-at (omega arith) (waysAt .0 .stands)));
-          isFine = record { isFine = record { named = litsAt .isFine .named; ways = waysAt .0 .isFine }; fits = omega arith };
-          behind = omega arith;
-        })
+        subst₂ (λ (k′ : Constraint) (m : ℕ). Read s ofConstraint (ConstraintFits (most .literals) atoms total) at k′ m) (cc (j .3)) (cc (j .3))
+        (parts at (f .0) (f .1) (g .0) (g .1) (h .0) (h .1) (j .0) (j .1) (field-found s (sizes at) at (f .0) (f .1) (f .2))
+        (field-found s (counts (f .0) (f .1)) (f .1) (g .0) (g .1) (g .2))
+        (reads-literals s atoms (g .0) .finds (g .1) (h .0) (h .1) (h .2)) (j .2))
 
     reads : (at : ℕ) (k : Constraint) (next : ℕ) → Read s ofConstraint (ConstraintFits (most .literals) atoms total) at k next
         → after (field s (sizes at) at) fromCount ≡ found k next

@@ -1,122 +1,82 @@
--- Document 01, "Soundings with known depth", P1 to P11, from the definitions.
+-- Document 01, "Soundings with known depth", P1 to P11: from image bytes to answer, node number and sets, by the definitions.
 -- Assumes nothing.
-use Prim.Native.Nat.{ℕ, _≤_}
-use native.Mathlib.Omega.{arith}
+use Prim.Native.Nat.{ℕ, zero, suc, _/_, _%_}
 use mathlib.Core.Path.{_≡_, refl}
 use mathlib.Core.Bool.{Bool, true, false}
-use mathlib.Core.List.{List, [], _∷_, map, cons≢nil}
-use borrow.Author.Tests.{ltb-true, leb-true}
+use mathlib.Core.List.{List, [], _∷_, map}
 use lib.Count.{ones}
-use lib.Dec.{eqb, ltb, leb}
-use Rattle.base.specs.Bools.{choose, clash}
-use Rattle.base.specs.Lists.{all, all-every}
 use Rattle.base.specs.Least.{insert}
 use Rattle.base.specs.Order.{place, sort}
 use Rattle.book.specs.Book.{Lit, Clause, Constraint, Book}
-use Rattle.book.specs.Sound.{Orderly}
+use Rattle.book.specs.Walk.{fieldAt, field, running}
+use Rattle.book.specs.Faults.{wrongAtoms, wrongAbducibles, wrongCount, wrongLit, wrongHead, wrongSize, wrongClause, wrongConditions, wrongAlternative}
+use Rattle.book.specs.Loops.{pending, below, quiet, loopFree}
+use Rattle.book.specs.Decode.{literal, clause, alternative, alternatives, inside, constraint, counted, rules, book, ends, whole, lengthField, wrongFront, Decoded, accepted, refused, inOrder, decode}
+use Rattle.book.specs.Accepted.{orderly}
 use Rattle.judging.specs.Meaning.{clausesFor}
 use Rattle.searching.specs.Rules.{Outcome, finished, used-up, no-room, on, results, after, gather, noting, run, listing}
 use Rattle.searching.specs.Main.{Explanations, listed}
 
--- an atom, and its negation
-abbrev pub yea : ℕ → Lit
-yea p = record { atom = p; sign = true }
+-- the bytes of a numeral, the highest first; the first byte of an image is 1, so none is lost
+unfoldable pub bytesIn : ℕ → ℕ → List ℕ → List ℕ
+bytesIn zero n behind = behind
+bytesIn (suc k) zero behind = behind
+bytesIn (suc k) (suc n) behind = bytesIn k (suc n / 256) (suc n % 256 ∷ behind)
 
-abbrev pub nay : ℕ → Lit
-nay p = record { atom = p; sign = false }
+abbrev pub bytes : ℕ → List ℕ
+bytes n = bytesIn 64 n []
 
-infix 20 _from_
-abbrev pub _from_ : ℕ → List Lit → Clause
-p from ls = record { head = p; body = ls }
+-- a refused image's number, or how the search of its book ends
+pub data Sounded : Type 0 where
+  notRead : ℕ → Sounded
+  searched : Outcome → Sounded
 
-infix 20 _gives_
-abbrev pub _gives_ : List Lit → List (List Lit) → Constraint
-ls gives as′ = record { conditions = ls; alternatives = as′ }
-
--- Fish 0, rock 1, bubbles 2, spike 3, wake 4: spike from any of the three; bubbles need a wake, and none was seen.
-abbrev pub spike : Book
-spike = record {
-  atoms = 5;
-  abducibles = 3;
-  goal = yea 3 ∷ [];
-  clauses = (3 from (yea 0 ∷ [])) ∷ (3 from (yea 1 ∷ [])) ∷ (3 from (yea 2 ∷ [])) ∷ [];
-  constraints = ((yea 2 ∷ []) gives ((yea 4 ∷ []) ∷ [])) ∷ [];
-}
-
--- Document 003, example 5: rain 0, sprinkler 1, cloudy 2, wet grass 3.
-abbrev pub grass : Book
-grass = record {
-  atoms = 4;
-  abducibles = 3;
-  goal = yea 3 ∷ [];
-  clauses = (3 from (yea 0 ∷ [])) ∷ (3 from (yea 1 ∷ [])) ∷ [];
-  constraints = ((yea 0 ∷ []) gives ((yea 2 ∷ []) ∷ [])) ∷ ((yea 2 ∷ []) gives []) ∷ [];
-}
-
--- Document 003, example 6: a 0, b 1, p 2, q 3, r 4.
-abbrev pub negations : Book
-negations = record {
-  atoms = 5;
-  abducibles = 2;
-  goal = yea 2 ∷ [];
-  clauses = (2 from (nay 3 ∷ [])) ∷ (3 from (nay 4 ∷ [])) ∷ (4 from (yea 0 ∷ [])) ∷ (4 from (yea 1 ∷ [])) ∷ [];
-  constraints = [];
-}
-
--- An empty goal, nothing else.
-abbrev pub nothing : Book
-nothing = record { atoms = 1; abducibles = 0; goal = []; clauses = []; constraints = [] }
-
--- x←a,b; x←a; goal x. Here and below a is 0, b is 1, and x or p is 2.
-abbrev pub wider : Book
-wider = record {
-  atoms = 3;
-  abducibles = 2;
-  goal = yea 2 ∷ [];
-  clauses = (2 from (yea 0 ∷ yea 1 ∷ [])) ∷ (2 from (yea 0 ∷ [])) ∷ [];
-  constraints = [];
-}
-
--- x←a,b; x←¬a,¬b; goal x
-abbrev pub both-ways : Book
-both-ways = record {
-  atoms = 3;
-  abducibles = 2;
-  goal = yea 2 ∷ [];
-  clauses = (2 from (yea 0 ∷ yea 1 ∷ [])) ∷ (2 from (nay 0 ∷ nay 1 ∷ [])) ∷ [];
-  constraints = [];
-}
-
--- p←a; K p→nothing; K →a; empty goal
-abbrev pub deadlock : Book
-deadlock = record {
-  atoms = 3;
-  abducibles = 2;
-  goal = [];
-  clauses = (2 from (yea 0 ∷ [])) ∷ [];
-  constraints = ((yea 2 ∷ []) gives []) ∷ ([] gives ((yea 0 ∷ []) ∷ [])) ∷ [];
-}
-
--- campus←¬ski; ski←saturday,¬snow; goal campus: saturday 0, snow 1, campus 2, ski 3
-abbrev pub campus : Book
-campus = record {
-  atoms = 4;
-  abducibles = 2;
-  goal = yea 2 ∷ [];
-  clauses = (2 from (nay 3 ∷ [])) ∷ (3 from (yea 0 ∷ nay 1 ∷ [])) ∷ [];
-  constraints = [];
-}
+unfoldable pub soundedFrom : Decoded → ℕ → ℕ → Sounded
+soundedFrom (refused n) budget room = notRead n
+soundedFrom (accepted b) budget room = searched (listing b room budget)
 
 pub record Sounding : Type 0 where
-  pub book : Book
+  pub image : ℕ
   pub budget : ℕ
   pub room : ℕ
   pub depth : Outcome
 
-abbrev pub sounding : Book → ℕ → ℕ → Outcome → Sounding
-sounding b budget room o = record { book = b; budget = budget; room = room; depth = o }
+abbrev pub sounding : ℕ → ℕ → ℕ → Outcome → Sounding
+sounding image budget room o = record { image = image; budget = budget; room = room; depth = o }
 
--- The table: book, budget, room; then the sets and the node number, or 30 or 31 and the node number.
+-- P1: fish 0, rock 1, bubbles 2, spike 3, wake 4; spike from any of the three; bubbles need a wake, and none was seen
+abbrev pub spike : ℕ
+spike = 0x01_00000028_0005_0003_0001_0006_0003_0004_0003_0000_0004_0003_0002_0004_0003_0004_0001_0008_0001_0004_0001_0008
+
+-- P5: document 003, example 5: rain 0, sprinkler 1, cloudy 2, wet grass 3
+abbrev grass : ℕ
+grass = 0x01_00000028_0004_0003_0001_0006_0002_0004_0003_0000_0004_0003_0002_0002_0008_0001_0000_0001_0004_0004_0001_0004
+
+-- P6: document 003, example 6: a 0, b 1, p 2, q 3, r 4
+abbrev negations : ℕ
+negations = 0x01_00000024_0005_0002_0001_0004_0004_0004_0002_0007_0004_0003_0009_0004_0004_0000_0004_0004_0002_0000
+
+-- P7: an empty goal, nothing else
+abbrev nothing : ℕ
+nothing = 0x01_0000000a_0001_0000_0000_0000_0000
+
+-- P8: x←a,b; x←a; goal x. Here and below a is 0, b is 1, and x or p is 2
+abbrev wider : ℕ
+wider = 0x01_0000001a_0003_0002_0001_0004_0002_0006_0002_0000_0002_0004_0002_0000_0000
+
+-- P9: x←a,b; x←¬a,¬b; goal x
+abbrev bothWays : ℕ
+bothWays = 0x01_0000001c_0003_0002_0001_0004_0002_0006_0002_0000_0002_0006_0002_0001_0003_0000
+
+-- P10: p←a; K p→nothing; K →a; empty goal
+abbrev deadlock : ℕ
+deadlock = 0x01_0000001e_0003_0002_0000_0001_0004_0002_0000_0002_0004_0001_0004_0006_0000_0001_0000
+
+-- P11: campus←¬ski; ski←saturday,¬snow; goal campus: saturday 0, snow 1, campus 2, ski 3
+abbrev campus : ℕ
+campus = 0x01_0000001a_0004_0002_0001_0004_0002_0004_0002_0007_0006_0003_0000_0003_0000
+
+-- The table: image, budget, room; then the sets and the node number, or 30 or 31 with the node number.
 abbrev pub soundings : List Sounding
 soundings =
     sounding spike 15 256 (finished (1 ∷ 2 ∷ []) 15)  -- P1
@@ -128,59 +88,39 @@ soundings =
     ∷ sounding nothing 100_000 256 (finished (0 ∷ []) 1)  -- P7
     ∷ sounding nothing 0 256 (used-up 0)
     ∷ sounding wider 100_000 1 (finished (1 ∷ []) 6)  -- P8
-    ∷ sounding both-ways 100_000 256 (finished (0 ∷ []) 7)  -- P9
+    ∷ sounding bothWays 100_000 256 (finished (0 ∷ []) 7)  -- P9
     ∷ sounding deadlock 100_000 256 (finished [] 6)  -- P10
     ∷ sounding campus 100_000 256 (finished (0 ∷ []) 7)  -- P11
     ∷ []
 
--- Each search ends as the table says.
-pub known-depths : map (λ (r : Sounding). listing (r .book) (r .room) (r .budget)) soundings ≡ map (λ (r : Sounding). r .depth) soundings
-unfolding clausesFor on results after noting run insert place sort ones gather
+-- Each image is read, and its search ends as the table says.
+pub known-depths : map (λ (r : Sounding). soundedFrom (decode (bytes (r .image))) (r .budget) (r .room)) soundings
+    ≡ map (λ (r : Sounding). searched (r .depth)) soundings
+unfolding bytesIn soundedFrom fieldAt field running wrongAtoms wrongAbducibles wrongCount wrongLit wrongHead wrongSize wrongClause wrongConditions wrongAlternative pending below quiet loopFree literal clause alternative alternatives inside constraint counted rules book ends whole lengthField wrongFront inOrder decode clausesFor on results after noting run insert place sort ones gather
 known-depths = refl
 
--- The first book is orderly, so that P1 says by the meaning alone: {fish} and {rock} are its smallest explanations, and there is no other.
-spike-orderly : Orderly spike
-spike-orderly = record {
-  assumable = omega arith;
-  goal-known = λ l m. ltb-true (l .atom) 5 (all-every (λ (l : Lit). ltb (l .atom) 5) (spike .goal) refl l m);
-  heads-known = λ c m. ltb-true (c .head) 5 (all-every (λ (c : Clause). ltb (c .head) 5) (spike .clauses) refl c m);
-  bodies-known = λ c m l k. ltb-true (l .atom) 5
-      (all-every (λ (l : Lit). ltb (l .atom) 5) (c .body) (all-every (λ (c : Clause). all (λ (l : Lit). ltb (l .atom) 5) (c .body)) (spike .clauses) refl c m) l k);
-  conditions-known = λ c m l k. ltb-true (l .atom) 5
-      (all-every (λ (l : Lit). ltb (l .atom) 5) (c .conditions)
-      (all-every (λ (c : Constraint). all (λ (l : Lit). ltb (l .atom) 5) (c .conditions)) (spike .constraints) refl c m) l k);
-  alternatives-known = λ c m ls k l n. ltb-true (l .atom) 5
-      (all-every (λ (l : Lit). ltb (l .atom) 5) ls
-      (all-every (λ (ls : List Lit). all (λ (l : Lit). ltb (l .atom) 5) ls) (c .alternatives)
-      (all-every (λ (c : Constraint). all (λ (ls : List Lit). all (λ (l : Lit). ltb (l .atom) 5) ls) (c .alternatives)) (spike .constraints) refl c m) ls k) l n);
-  heads-defined = λ c m. leb-true 3 (c .head) (all-every (λ (c : Clause). leb 3 (c .head)) (spike .clauses) refl c m);
-  alternatives-named = λ c m ls k e. named ls
-      (all-every some-literal (c .alternatives) (all-every (λ (c : Constraint). all some-literal (c .alternatives)) (spike .constraints) refl c m) ls k) e;
-  rank = rank;
-  falls = λ c m l k. ltb-true (rank (l .atom)) (rank (c .head))
-      (all-every (λ (l : Lit). ltb (rank (l .atom)) (rank (c .head))) (c .body)
-      (all-every (λ (c : Clause). all (λ (l : Lit). ltb (rank (l .atom)) (rank (c .head))) (c .body)) (spike .clauses) refl c m) l k);
-  ranked = λ p. low (eqb p 3);
-}
+-- the book of P1
+abbrev pub spikeBook : Book
+spikeBook =
+    record {
+      atoms = 5;
+      abducibles = 3;
+      goal = yea 3 ∷ [];
+      clauses = from 3 (yea 0) ∷ from 3 (yea 1) ∷ from 3 (yea 2) ∷ [];
+      constraints = record { conditions = yea 2 ∷ []; alternatives = (yea 4 ∷ []) ∷ [] } ∷ []
+    }
   where
-    rank : ℕ → ℕ
-    rank p = choose (eqb p 3) 1 0
+    yea : ℕ → Lit
+    yea p = record { atom = p; sign = true }
+    from : ℕ → Lit → Clause
+    from p l = record { head = p; body = l ∷ [] }
 
-    low : (t : Bool) → choose t 1 0 ≤ 5
-    low true = omega arith
-    low false = omega arith
-
-    some-literal : List Lit → Bool
-    some-literal [] = false
-    some-literal (l ∷ ls) = true
-
-    named : (ls : List Lit) → some-literal ls ≡ true → ls ≡ [] → ⊥
-    named [] t e = clash t refl
-    named (l ∷ ls) t e = cons≢nil e
-
-pub spike-explained : Explanations spike (1 ∷ 2 ∷ [])
-unfolding clausesFor on results after noting run insert place sort ones gather
-spike-explained = listed spike spike-orderly 256 15 (1 ∷ 2 ∷ []) 15 p1 .0
+-- P1 by the meaning alone: {fish} and {rock} are the smallest explanations of its book, and there is no other.
+pub spike-explained : Explanations spikeBook (1 ∷ 2 ∷ [])
+unfolding bytesIn fieldAt field running wrongAtoms wrongAbducibles wrongCount wrongLit wrongHead wrongSize wrongClause wrongConditions wrongAlternative pending below quiet loopFree literal clause alternative alternatives inside constraint counted rules book ends whole lengthField wrongFront inOrder decode clausesFor on results after noting run insert place sort ones gather
+spike-explained = listed spikeBook (orderly (bytes spike) spikeBook read) 256 15 (1 ∷ 2 ∷ []) 15 p1 .0
   where
-    p1 : listing spike 256 15 ≡ finished (1 ∷ 2 ∷ []) 15
+    read : decode (bytes spike) ≡ accepted spikeBook
+    read = refl
+    p1 : listing spikeBook 256 15 ≡ finished (1 ∷ 2 ∷ []) 15
     p1 = refl
