@@ -8,3 +8,4 @@ pub mod Tests
 pub mod Flat
 pub mod Below
 pub mod Members
+pub mod Scans

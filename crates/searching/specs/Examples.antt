@@ -107,11 +107,12 @@ spikeBook =
       abducibles = 3;
       goal = yea 3 ∷ [];
       clauses = from 3 (yea 0) ∷ from 3 (yea 1) ∷ from 3 (yea 2) ∷ [];
-      constraints = record { conditions = yea 2 ∷ []; alternatives = (yea 4 ∷ []) ∷ [] } ∷ []
+      constraints = record { conditions = yea 2 ∷ []; alternatives = (yea 4 ∷ []) ∷ [] } ∷ [];
     }
   where
     yea : ℕ → Lit
     yea p = record { atom = p; sign = true }
+
     from : ℕ → Lit → Clause
     from p l = record { head = p; body = l ∷ [] }
 
@@ -122,5 +123,6 @@ spike-explained = listed spikeBook (orderly (bytes spike) spikeBook read) 256 15
   where
     read : decode (bytes spike) ≡ accepted spikeBook
     read = refl
+
     p1 : listing spikeBook 256 15 ≡ finished (1 ∷ 2 ∷ []) 15
     p1 = refl

@@ -11,23 +11,13 @@ use lib.ListN.{drop-of-length-le, length, take, drop, getD, set, length-set, len
 use lib.Seq.{slice, slice-empty, length-take-le, take-all, append-snoc, set-split, take-at, drop-at}
 use Rattle.base.specs.Bools.{choose-true, choose-false}
 use Rattle.base.specs.Lists.{any}
+use Rattle.base.specs.Scans.{next}
 use Rattle.base.specs.Parts.{filter, lay, lay-fits, lay-full, length-lay, take-lay, filter-length}
 use Rattle.base.specs.Order
 use Rattle.base.specs.Least
 use Rattle.sets.specs.Sets.{inside, sooner}
 use Rattle.sets.specs.Kept.{insert, place, sort, zeros, Laid, Stands, insert-length}
-use Rattle.sets.proofs.Steps.{next, next-all, front, stored, stored-behind, behind, behind-at, lay-store, any-first, any-later, filter-first, filter-later}
-
--- ---- looking for an entry that passes a test, in the part from i to n
-
-pub any-none : (t : ℕ → Bool) (l : List ℕ) (i n : ℕ) → i ≡ n → any t (slice i n l) ≡ false
-any-none t l i n e = ap (λ (j : ℕ). any t (slice j n l)) e ∙ ap (any t) (slice-empty n l)
-
-pub any-met : (t : ℕ → Bool) (l : List ℕ) (i n : ℕ) → i < n → n ≤ length l → t (getD l i 0) ≡ true → any t (slice i n l) ≡ true
-any-met t l i n h k e = ap (any t) (next l i n h k) ∙ any-first t (slice (i + 1) n l) e
-
-pub any-unmet : (t : ℕ → Bool) (l : List ℕ) (i n : ℕ) → i < n → n ≤ length l → t (getD l i 0) ≡ false → any t (slice i n l) ≡ any t (slice (i + 1) n l)
-any-unmet t l i n h k e = ap (any t) (next l i n h k) ∙ any-later t (slice (i + 1) n l) e
+use Rattle.sets.proofs.Steps.{next-all, front, stored, stored-behind, behind, behind-at, lay-store, filter-first, filter-later}
 
 -- ---- squeezing: of the first i of n entries those that pass stand in the front, and what is behind them is as it was
 

@@ -8,15 +8,10 @@ use native.Mathlib.Nat.{le-of-suc-le-suc, not-suc-le-zero}
 use native.Mathlib.Numerals.{add-one}
 use native.Mathlib.Omega.{arith}
 use lib.ListN.{length, take, drop, getD, set}
-use lib.Seq.{slice, slice-cons, take-suc-set, take-suc, drop-set-lt, getD-drop, drop-drop, drop-cons}
-use Rattle.base.specs.Lists.{any}
+use lib.Seq.{take-suc-set, take-suc, drop-set-lt, getD-drop, drop-drop, drop-cons}
 use Rattle.base.specs.Parts.{filter, lay}
 
--- of the part from i to n: the first entry, and the others
-pub next : (l : List ℕ) (i n : ℕ) → i < n → n ≤ length l → slice i n l ≡ getD l i 0 ∷ slice (i + 1) n l
-next l i n h k = slice-cons i n l 0 h k ∙ ap (λ (j : ℕ). getD l i 0 ∷ slice j n l) (sym (add-one i))
-
--- and of the part from i on
+-- of the part from i on: the first entry, and the others
 pub next-all : (l : List ℕ) (i : ℕ) → i < length l → drop i l ≡ getD l i 0 ∷ drop (i + 1) l
 next-all l i h = drop-cons l i 0 h ∙ ap (λ (j : ℕ). getD l i 0 ∷ drop j l) (sym (add-one i))
 
@@ -49,12 +44,6 @@ lay-store (c ∷ new) [] a h = absurd (not-suc-le-zero h)
 lay-store (c ∷ new) (b ∷ old) a h = ap (λ (l : List ℕ). c ∷ l) (lay-store new old a (le-of-suc-le-suc h))
 
 -- a test's count goes by the first entry
-pub any-first : (t : ℕ → Bool) {x : ℕ} (l : List ℕ) → t x ≡ true → any t (x ∷ l) ≡ true
-any-first t l e = rw e
-
-pub any-later : (t : ℕ → Bool) {x : ℕ} (l : List ℕ) → t x ≡ false → any t (x ∷ l) ≡ any t l
-any-later t l e = rw e
-
 pub filter-first : (t : ℕ → Bool) {x : ℕ} (l : List ℕ) → t x ≡ true → filter t (x ∷ l) ≡ x ∷ filter t l
 filter-first t l e = rw e
 

@@ -17,7 +17,8 @@ use lib.Pow.{shr-shr, split, pow-pos, pow-mono}
 use Rattle.base.specs.Bools.{clash, decide, both, both-left, both-right, either, either-left, either-right, same-test}
 use Rattle.base.specs.Lists.{_∈_, here, there}
 use Rattle.base.specs.Parts.{filter, put, filter-has, filter-from, Pairwise, pairwise-filter}
-use Rattle.sets.specs.Sets.{has, inside, upTo, members, sooner}
+use Rattle.base.specs.Members.{has}
+use Rattle.sets.specs.Sets.{inside, upTo, members, sooner}
 
 -- ---- membership, digit by digit
 

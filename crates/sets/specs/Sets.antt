@@ -4,15 +4,12 @@
 use mathlib.Core.Path.{_≡_, refl}
 use mathlib.Core.Bool.{Bool, true, _&&_, _||_}
 use mathlib.Core.List.{List, [], _∷_, map}
-use Prim.Native.Nat.{ℕ, zero, suc, _+_, _/_, _%_, _^_}
+use Prim.Native.Nat.{ℕ, zero, suc, _+_, _^_}
 use lib.Bits.{bitAnd}
 use lib.Count.{ones}
 use lib.Dec.{ltb, eqb}
+use Rattle.base.specs.Members.{has}
 use Rattle.base.specs.Parts.{filter}
-
--- abducible j is in the set d
-abbrev pub has : ℕ → ℕ → Bool
-has d j = eqb (d / 2 ^ j % 2) 1
 
 -- every member of a is in b
 abbrev pub inside : ℕ → ℕ → Bool

@@ -8,7 +8,7 @@ use lib.ListN.{take}
 use lib.Seq.{slice}
 use Rattle.base.specs.Lists.{any}
 use Rattle.sets.specs.Sets.{inside}
-use Rattle.sets.proofs.Loops.{any-none, any-met, any-unmet}
+use Rattle.base.specs.Scans.{any-none, any-met, any-unmet}
 use Rattle.sets.proofs.kept.has_inside.Statement.{statement}
 use Rattle.sets.proofs.kept.has_inside.Tie as tie
 

@@ -1,0 +1,51 @@
+// The verdict on a hypothesis, from the sets of a finished listing.
+
+ghost use mathlib.Core.Path.{_≡_};
+ghost use Prim.Native.Nat.{_≤_, _<_};
+ghost use lib.ListN.{length, take};
+ghost use Rattle.base.specs.Lists.{all, any};
+ghost use Rattle.base.specs.Members.{has};
+
+// Whether the hypothesis is in the set.
+fn is_in(set: u64, hypothesis: u32) -> bool
+    requires { ⌜ hypothesis < 64 ⌝ }
+    ensures { λ r. ⌜ r ≡ has set hypothesis ⌝ }
+{
+    (set >> hypothesis) % 2 == 1
+}
+
+// Whether it is in each of the first `count` sets.
+pub fn in_every(sets: &[u64], count: usize, hypothesis: u32) -> bool
+    requires { ⌜ count ≤ length (now sets) ⌝ }
+    requires { ⌜ hypothesis < 64 ⌝ }
+    ensures { λ r. ⌜ r ≡ all (λ s. has s hypothesis) (take count (now (sets .entry))) ⌝ }
+{
+    let mut i = 0;
+    loop {
+        if i == count {
+            break true;
+        }
+        if !is_in(sets[i], hypothesis) {
+            break false;
+        }
+        i += 1;
+    }
+}
+
+// Whether it is in one of them.
+pub fn in_some(sets: &[u64], count: usize, hypothesis: u32) -> bool
+    requires { ⌜ count ≤ length (now sets) ⌝ }
+    requires { ⌜ hypothesis < 64 ⌝ }
+    ensures { λ r. ⌜ r ≡ any (λ s. has s hypothesis) (take count (now (sets .entry))) ⌝ }
+{
+    let mut i = 0;
+    loop {
+        if i == count {
+            break false;
+        }
+        if is_in(sets[i], hypothesis) {
+            break true;
+        }
+        i += 1;
+    }
+}
