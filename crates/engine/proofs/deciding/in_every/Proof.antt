@@ -3,7 +3,6 @@
 use Prim.Native.Nat.{_-_, _≤_}
 use mathlib.Core.Path.{_≡_, refl, sym, _∙_}
 use native.Mathlib.Omega.{arith}
-use borrow.Author.Needs.{needs}
 use borrow.Author.Tests.{not-true, not-false}
 use lib.ListN.{take}
 use lib.Seq.{slice}
@@ -12,9 +11,6 @@ use Rattle.base.specs.Members.{has}
 use Rattle.base.specs.Scans.{all-none, all-met, all-unmet}
 use Rattle.engine.proofs.deciding.in_every.Statement.{statement}
 use Rattle.engine.proofs.deciding.in_every.Tie as tie
-use Rattle.engine.proofs.deciding.in_every.Reads as reads
-use Rattle.engine.proofs.deciding.in_every.Lts as lts
-use Rattle.engine.proofs.deciding.is_in.Reads as is-in-reads
 
 abbrev Inv-loop : tie.InvT-loop
 Inv-loop sets count hypothesis i₀ i = (i ≤ count) × (all (λ s. has s hypothesis) (take count sets) ≡ all (λ s. has s hypothesis) (slice i count sets))
@@ -22,31 +18,24 @@ Inv-loop sets count hypothesis i₀ i = (i ≤ count) × (all (λ s. has s hypot
 abbrev μ-loop : tie.MeasureT-loop
 μ-loop sets count hypothesis i₀ i = count - i
 
--- src/deciding.rt:24:5
 loop-holds : tie.Need-loop-holds Inv-loop μ-loop
 loop-holds c = (omega arith, refl)
 
--- src/deciding.rt:28:19
 mul-is-in : tie.Need-mul-is-in Inv-loop μ-loop
 mul-is-in c = omega arith
 
--- src/deciding.rt:28:19
 shared-slice-read-is-in : tie.Need-shared-slice-read-is-in Inv-loop μ-loop
 shared-slice-read-is-in c = omega arith
 
--- src/deciding.rt:28:13
 is-in-requires : tie.Need-is-in-requires Inv-loop μ-loop
 is-in-requires c κs = omega arith
 
--- src/deciding.rt:31:9
 add-i : tie.Need-add-i Inv-loop μ-loop
 add-i c = omega arith
 
--- src/deciding.rt:24:5
 loop-less : tie.Need-loop-less Inv-loop μ-loop
 loop-less c = omega arith
 
--- src/deciding.rt:24:5
 loop-again : tie.Need-loop-again Inv-loop μ-loop
 loop-again c =
     let a = c .before .before .before .before .before .before .args in
@@ -57,14 +46,12 @@ loop-again c =
           (sym (c .before .is-in .ensures) ∙ not-false _ (c .if2 .left)),
     )
 
--- src/deciding.rt:18:1
 returns : tie.Need-returns Inv-loop μ-loop
 returns c =
     let a = c .before .before .before .args in
     let l = c .before .loop in
     sym (l .inv .1 ∙ all-none (λ s. has s (a .hypothesis)) (a .sets .now) (l .i) (a .count) (c .if1 .taken))
 
--- src/deciding.rt:18:1
 returns-2 : tie.Need-returns-2 Inv-loop μ-loop
 returns-2 c =
     let a = c .before .before .before .before .before .before .args in

@@ -3,7 +3,6 @@
 use Prim.Native.Nat.{_-_, _≤_}
 use mathlib.Core.Path.{_≡_, refl, sym, _∙_}
 use native.Mathlib.Omega.{arith}
-use borrow.Author.Needs.{needs}
 use lib.ListN.{take}
 use lib.Seq.{slice}
 use Rattle.base.specs.Lists.{any}
@@ -11,9 +10,6 @@ use Rattle.base.specs.Members.{has}
 use Rattle.base.specs.Scans.{any-none, any-met, any-unmet}
 use Rattle.engine.proofs.deciding.in_some.Statement.{statement}
 use Rattle.engine.proofs.deciding.in_some.Tie as tie
-use Rattle.engine.proofs.deciding.in_some.Reads as reads
-use Rattle.engine.proofs.deciding.in_some.Lts as lts
-use Rattle.engine.proofs.deciding.is_in.Reads as is-in-reads
 
 abbrev Inv-loop : tie.InvT-loop
 Inv-loop sets count hypothesis i₀ i = (i ≤ count) × (any (λ s. has s hypothesis) (take count sets) ≡ any (λ s. has s hypothesis) (slice i count sets))
@@ -21,31 +17,24 @@ Inv-loop sets count hypothesis i₀ i = (i ≤ count) × (any (λ s. has s hypot
 abbrev μ-loop : tie.MeasureT-loop
 μ-loop sets count hypothesis i₀ i = count - i
 
--- src/deciding.rt:42:5
 loop-holds : tie.Need-loop-holds Inv-loop μ-loop
 loop-holds c = (omega arith, refl)
 
--- src/deciding.rt:46:18
 mul-is-in : tie.Need-mul-is-in Inv-loop μ-loop
 mul-is-in c = omega arith
 
--- src/deciding.rt:46:18
 shared-slice-read-is-in : tie.Need-shared-slice-read-is-in Inv-loop μ-loop
 shared-slice-read-is-in c = omega arith
 
--- src/deciding.rt:46:12
 is-in-requires : tie.Need-is-in-requires Inv-loop μ-loop
 is-in-requires c κs = omega arith
 
--- src/deciding.rt:49:9
 add-i : tie.Need-add-i Inv-loop μ-loop
 add-i c = omega arith
 
--- src/deciding.rt:42:5
 loop-less : tie.Need-loop-less Inv-loop μ-loop
 loop-less c = omega arith
 
--- src/deciding.rt:42:5
 loop-again : tie.Need-loop-again Inv-loop μ-loop
 loop-again c =
     let a = c .before .before .before .before .before .before .args in
@@ -56,14 +45,12 @@ loop-again c =
           (sym (c .before .is-in .ensures) ∙ c .if2 .left),
     )
 
--- src/deciding.rt:36:1
 returns : tie.Need-returns Inv-loop μ-loop
 returns c =
     let a = c .before .before .before .args in
     let l = c .before .loop in
     sym (l .inv .1 ∙ any-none (λ s. has s (a .hypothesis)) (a .sets .now) (l .i) (a .count) (c .if1 .taken))
 
--- src/deciding.rt:36:1
 returns-2 : tie.Need-returns-2 Inv-loop μ-loop
 returns-2 c =
     let a = c .before .before .before .before .before .before .args in
