@@ -4,12 +4,14 @@
 // `bad case`.
 //
 //   1 read    image                                             accepted | refused R
+//   2 judge   image, set (eight bytes)                          explains | goal P | constraint P | refused R
 //   5 join    two counts with their sets, room (two bytes)      joined K | refused R, then ` sets` and the room's entries
 
 mod input;
 mod output;
 
 use book::Reading;
+use judging::Judgement;
 use sets::Joined;
 
 fn read(image: &[u8]) {
@@ -27,6 +29,30 @@ fn read_case() -> bool {
     }
     let n = taken.value;
     read(&image[..n]);
+    true
+}
+
+fn judge(image: &[u8], set: u64) {
+    match judging::judge(image, set) {
+        Judgement::Explains => output::line(b"explains"),
+        Judgement::FalseGoal(p) => output::numbered(b"goal ", p as u64),
+        Judgement::BrokenConstraint(p) => output::numbered(b"constraint ", p as u64),
+        Judgement::Refused(r) => output::numbered(b"refused ", r as u64),
+    }
+}
+
+fn judge_case() -> bool {
+    let mut image = input::image_buffer();
+    let taken = input::take_image(&mut image);
+    let set = input::take_u64();
+    if !taken.ok {
+        return false;
+    }
+    if !set.ok {
+        return false;
+    }
+    let n = taken.value;
+    judge(&image[..n], set.value);
     true
 }
 
@@ -65,6 +91,7 @@ fn join_case() -> bool {
 fn answered(operation: u64) -> bool {
     match operation {
         1 => read_case(),
+        2 => judge_case(),
         5 => join_case(),
         _ => false,
     }

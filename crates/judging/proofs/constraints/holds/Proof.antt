@@ -1,0 +1,102 @@
+-- `judging::constraints::holds` meets its contract. Assumes nothing.
+use mathlib.Core.Path.{sym, subst, _∙_}
+use mathlib.Core.List.{List}
+use native.Mathlib.Omega.{arith}
+use Rattle.book.specs.Book.{Lit}
+use Rattle.book.specs.Sound.{Known}
+use Rattle.judging.specs.Notes.{bookIn}
+use Rattle.judging.proofs.Rule.{Rule, rule, counted-part, rule-false, rule-true, rule-ways}
+use borrow.Author.Needs.{needs}
+use Rattle.judging.proofs.constraints.holds.Statement.{statement}
+use Rattle.judging.proofs.constraints.holds.Tie as tie
+
+-- the constraint that stands at the place
+here : (c : tie.Start) → Rule (c .args .image .now) (c .args .place) (c .pre .1 .1 .0)
+here c = rule _ (c .pre .0) _ _ (c .pre .1 .1 .1) (c .pre .1 .1 .2)
+
+add-start : tie.Need-add-start
+add-start c = omega (arith, here (c .before) .within, c .before .good .0 .0)
+
+field-at-requires : tie.Need-field-at-requires
+field-at-requires c κs = omega (arith, here (c .before) .within)
+
+cast-end : tie.Need-cast-end
+cast-end c = search needs
+
+add-end : tie.Need-add-end
+add-end c = let e = c .before .before in omega (arith, here e .within, c .field-at .ensures .0, e .good .0 .0)
+
+field-at-requires-2 : tie.Need-field-at-requires-2
+field-at-requires-2 c κs = let e = c .before .before in omega (arith, here e .turn, here e .within)
+
+cast-count : tie.Need-cast-count
+cast-count c = search needs
+
+add-turn : tie.Need-add-turn
+add-turn c = let e = c .before .before .before in omega (arith, here e .turn, here e .within, e .good .0 .0)
+
+mul-turn : tie.Need-mul-turn
+mul-turn c = search needs
+
+add-turn-2 : tie.Need-add-turn-2
+add-turn-2 c = let e = c .before .before .before in omega (arith, here e .turn, here e .within, c .field-at2 .ensures .0, e .good .0 .0)
+
+sub-first-false : tie.Need-sub-first-false
+sub-first-false c = search needs
+
+part-first-false-start : tie.Need-part-first-false-start
+part-first-false-start c = search needs
+
+part-first-false-end : tie.Need-part-first-false-end
+part-first-false-end c = let e = c .before .before .before .before in omega (arith, here e .turn, here e .within, c .before .field-at2 .ensures .0)
+
+first-false-requires : tie.Need-first-false-requires
+first-false-requires c κs =
+    let e = c .before .before .before .before .before in (
+      e .pre .0,
+      (
+        e .pre .1 .0,
+        subst (λ (ls : List Lit). Known (bookIn (e .args .image .now)) ls) (sym (counted-part _ _ _ _ (here e .conditions) (c .before .before .field-at2 .ensures .0))) (here e .known),
+      ),
+    )
+
+returns : tie.Need-returns
+returns c = (
+  λ k m h. sym (rule-false _ _ _ k (rule _ (c .before .before .before .before .before .before .before .pre .0) _ k m h) _ _ (c .before .before .before .before .field-at2 .ensures .0) (c .before .first-false .ensures .0) (c .if1 .taken)),
+  c .before .first-false .ensures .1,
+)
+
+some-way-requires : tie.Need-some-way-requires
+some-way-requires c κs =
+    let e = c .before .before .before .before .before .before .before .before in
+    (e .pre .0, (c .before .before .first-false .ensures .1, (_, rule-ways _ _ _ (here e) _ _ (c .before .before .before .before .before .field-at2 .ensures .0) (c .before .before .before .before .before .before .field-at .ensures .0))))
+
+returns-2 : tie.Need-returns-2
+returns-2 c = (
+  λ k m h.
+      let r = rule _ (c .before .before .before .before .before .before .before .before .before .pre .0) _ k m h in
+      c .some-way .ensures .0 _ (rule-ways _ _ k r _ _ (c .before .before .before .before .before .before .field-at2 .ensures .0) (c .before .before .before .before .before .before .before .field-at .ensures .0))
+      ∙ sym (rule-true _ _ _ k r _ _ (c .before .before .before .before .before .before .field-at2 .ensures .0) (c .before .before .before .first-false .ensures .0) (c .before .before .if1 .left)),
+  c .some-way .ensures .1,
+)
+
+pub holds-spec : {M : Type 1} → statement M
+holds-spec =
+    tie.close
+    (tie.spec
+    add-start
+    field-at-requires
+    cast-end
+    add-end
+    field-at-requires-2
+    cast-count
+    add-turn
+    mul-turn
+    add-turn-2
+    sub-first-false
+    part-first-false-start
+    part-first-false-end
+    first-false-requires
+    returns
+    some-way-requires
+    returns-2)

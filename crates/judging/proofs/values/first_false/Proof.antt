@@ -1,0 +1,93 @@
+-- `judging::values::first_false` meets its contract. Assumes nothing.
+use mathlib.Core.Path.{_≡_, sym, _∙_}
+use Prim.Native.Nat.{_-_}
+use native.Mathlib.Omega.{arith}
+use borrow.Author.Needs.{needs}
+use borrow.Author.Tests.{not-true, not-false}
+use lib.ListN.{length}
+use Rattle.judging.specs.Meaning.{true-in, value}
+use Rattle.judging.specs.Notes.{bookIn}
+use Rattle.book.specs.Book.{Lit}
+use Rattle.judging.proofs.Image.{Here, met-literal, met-end, met-truth}
+use Rattle.judging.proofs.Run.{Run, run-start, run-over, run-known, run-false, run-true}
+use Rattle.judging.proofs.values.first_false.Statement.{statement}
+use Rattle.judging.proofs.values.first_false.Tie as tie
+
+abbrev Inv-loop : tie.InvT-loop
+Inv-loop image set memo₀ part at₀ i₀ memo at i = Run image set part at i memo
+
+abbrev μ-loop : tie.MeasureT-loop
+μ-loop image set memo₀ part at₀ i₀ memo at i = length part - at
+
+abbrev lit : tie.After-p Inv-loop μ-loop → Lit
+lit c = record { atom = c .p .given .0 .0; sign = c .p .given .0 .1 .0 }
+
+-- the literal that the walk meets stands in the part
+met : (c : tie.After-p Inv-loop μ-loop) → Here (c .before .before .before .before .before .before .args .part .now) (length (c .before .before .before .before .before .before .args .part .now)) (c .before .before .before .loop .at) (lit c)
+met c = met-literal _ _ _ _ (sym (c .before .before .walk .ensures) ∙ c .p .given .1)
+
+-- and is true as the code finds it
+truth : (c : tie.After-is-true Inv-loop μ-loop)
+    → true-in (value (bookIn (c .before .before .before .before .before .before .before .before .before .before .args .image .now)) (c .before .before .before .before .before .before .before .before .before .before .args .set)) (lit (c .before .before .before .before)) ≡ c .is-true .result
+truth c =
+    let e = c .before .before .before .before .before .before .before .before .before .before in
+    met-truth (value (bookIn (e .args .image .now)) (e .args .set)) (lit (c .before .before .before .before) .atom) (lit (c .before .before .before .before) .sign) _ _ (c .is-true .ensures) (c .before .value .ensures .0)
+
+loop-holds : tie.Need-loop-holds Inv-loop μ-loop
+loop-holds c = run-start _ _ _ _ (c .before .before .pre .1 .0) (c .before .before .pre .1 .1)
+
+walk-requires : tie.Need-walk-requires Inv-loop μ-loop
+walk-requires c κs = tt
+
+enum-told : tie.Need-enum-told Inv-loop μ-loop
+enum-told c = search needs
+
+returns : tie.Need-returns Inv-loop μ-loop
+returns c = (run-over _ _ _ _ _ _ (c .before .before .before .loop .inv) (met-end _ _ (sym (c .before .before .walk .ensures) ∙ c .enum-told .given .1)), c .before .before .before .loop .inv .noted)
+
+enum-known-p : tie.Need-enum-known-p Inv-loop μ-loop
+enum-known-p c = search needs
+
+value-requires : tie.Need-value-requires Inv-loop μ-loop
+value-requires c κs = (c .before .before .before .before .before .before .before .before .pre .0, (c .before .before .before .before .before .loop .inv .noted, run-known _ _ _ _ _ _ (c .before .before .before .before .before .loop .inv) _ (met (c .before .before))))
+
+is-true-requires : tie.Need-is-true-requires Inv-loop μ-loop
+is-true-requires c κs = tt
+
+returns-2 : tie.Need-returns-2 Inv-loop μ-loop
+returns-2 c = (
+  run-false _ _ _ _ _ _ (c .before .before .before .before .before .before .before .before .loop .inv) _ (met (c .before .before .before .before .before)) (truth (c .before) ∙ not-true _ (c .if1 .taken)),
+  c .before .before .value .ensures .1,
+)
+
+add-at : tie.Need-add-at Inv-loop μ-loop
+add-at c = omega (arith, met (c .before .before .before .before .before) .within, c .before .before .before .before .before .before .before .before .before .before .before .good)
+
+add-i : tie.Need-add-i Inv-loop μ-loop
+add-i c = omega (arith, c .before .before .before .before .before .before .before .before .loop .inv .reached, met (c .before .before .before .before .before) .within, c .before .before .before .before .before .before .before .before .before .before .before .good)
+
+loop-less : tie.Need-loop-less Inv-loop μ-loop
+loop-less c = omega (arith, met (c .before .before .before .before .before) .within)
+
+loop-again : tie.Need-loop-again Inv-loop μ-loop
+loop-again c =
+    run-true _ _ _ _ _ _ (c .before .before .before .before .before .before .before .before .loop .inv) _ (met (c .before .before .before .before .before)) _ (c .before .before .value .ensures .1) (truth (c .before) ∙ not-false _ (c .if1 .left))
+
+pub first-false-spec : {M : Type 1} → statement M
+first-false-spec =
+    tie.close
+    (tie.spec
+    Inv-loop
+    μ-loop
+    loop-holds
+    walk-requires
+    enum-told
+    returns
+    enum-known-p
+    value-requires
+    is-true-requires
+    returns-2
+    add-at
+    add-i
+    loop-less
+    loop-again)
