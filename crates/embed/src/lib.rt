@@ -2,7 +2,7 @@
 // as a pointer and then a length.
 
 use book::Reading;
-use sets::Joined;
+use engine::Joined;
 ghost use Rattle.embed.specs.Codes.{ReadingCode, JoinedCode};
 
 #[no_mangle]
@@ -19,7 +19,7 @@ pub extern "C" fn wizogbare_read(image: &[u8]) -> u32
 pub extern "C" fn wizogbare_join(left: &[u64], right: &[u64], out: &mut [u64]) -> u64
     ensures { λ r. ⌜ JoinedCode (now (left .entry)) (now (right .entry)) (now (out .entry)) r (now (out .exit)) ⌝ }
 {
-    match sets::join(left, right, out) {
+    match engine::join(left, right, out) {
         Joined::Count(k) => k as u64,
         Joined::Refused(n) => 4294967296 * (n as u64),
     }

@@ -11,8 +11,8 @@ mod input;
 mod output;
 
 use book::Reading;
-use judging::Judgement;
-use sets::Joined;
+use engine::Joined;
+use engine::Judgement;
 
 fn read(image: &[u8]) {
     match book::read(image) {
@@ -33,7 +33,7 @@ fn read_case() -> bool {
 }
 
 fn judge(image: &[u8], set: u64) {
-    match judging::judge(image, set) {
+    match engine::judge(image, set) {
         Judgement::Explains => output::line(b"explains"),
         Judgement::FalseGoal(p) => output::numbered(b"goal ", p as u64),
         Judgement::BrokenConstraint(p) => output::numbered(b"constraint ", p as u64),
@@ -57,7 +57,7 @@ fn judge_case() -> bool {
 }
 
 fn join(left: &[u64], right: &[u64], out: &mut [u64]) {
-    match sets::join(left, right, out) {
+    match engine::join(left, right, out) {
         Joined::Count(k) => output::count(b"joined ", k as u64),
         Joined::Refused(r) => output::count(b"refused ", r as u64),
     }
