@@ -2,11 +2,24 @@
 // it ends with an answer or a numbered refusal. The promises stand in specs/, one file for each call. The reader is `book::read`.
 
 pub use judging::Judgement;
+pub use lister::Listing;
 pub use sets::Joined;
+use deciding::Asked;
 ghost use Rattle.engine.specs.Judge.{Judges};
+ghost use Rattle.engine.specs.List.{Lists};
+ghost use Rattle.engine.specs.Verdict.{Verdicts};
 ghost use Rattle.engine.specs.Join.{Joins};
 
 mod deciding;
+
+// The verdict, or a refusal's number; the nodes last.
+pub enum Verdict {
+    Unexplained(u32),
+    Needed(u32),
+    Possible(u32),
+    RuledOut(u32),
+    Refused(u8, u32),
+}
 
 // Whether the set explains; or the place of the first false goal literal, or failing that of the first constraint that does not
 // hold; or 1 to 9, 23.
@@ -14,6 +27,29 @@ pub fn judge(image: &[u8], set: u64) -> Judgement
     ensures { λ r. ⌜ Judges (now (image .entry)) set r ⌝ }
 {
     judging::judge(image, set)
+}
+
+// Every smallest set that explains, once, at the front of `sets`, then zeros: how many, and the nodes of the search; or 1 to 9, 20,
+// 21, 22, 30, 31 with the nodes.
+pub fn list(image: &[u8], budget: u32, sets: &mut [u64], work: &mut [u32]) -> Listing
+    ensures { λ r. ⌜ Lists (now (image .entry)) budget (now (sets .entry)) (now (work .entry)) r (now (sets .exit)) (now (work .exit)) ⌝ }
+{
+    lister::list(image, budget, sets, work)
+}
+
+// Whether the hypothesis is needed, possible or ruled out by the list of smallest explanations, or nothing explains; or a refusal,
+// as of `list`, or 23 before any search.
+pub fn verdict_on(image: &[u8], hypothesis: u32, budget: u32, sets: &mut [u64], work: &mut [u32]) -> Verdict
+    ensures { λ r. ⌜ Verdicts (now (image .entry)) hypothesis budget (now (sets .entry)) (now (work .entry)) r (now (sets .exit)) (now (work .exit)) ⌝ }
+{
+    let asked = deciding::before_search(image, hypothesis, budget, sets.len(), work.len());
+    match asked {
+        Asked::Turned(number) => Verdict::Refused(number, 0),
+        Asked::Search => match lister::list(image, budget, sets, work) {
+            Listing::Refused(number, nodes) => Verdict::Refused(number, nodes),
+            Listing::Listed(count, nodes) => deciding::decide(sets, count, hypothesis, nodes),
+        },
+    }
 }
 
 // The sets of either list with no proper subset among them, once each, in order, at the front of `out`, then zeros; or 20, 31.

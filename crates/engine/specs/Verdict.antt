@@ -1,0 +1,228 @@
+-- What `verdict_on` promises, after document 01, "Judge, verdict, joiner": it lists first and passes on any refusal; then it decides
+-- by the list.
+-- Assumes nothing.
+use Prim.Native.Nat.{ℕ, zero, suc, _-_, _≤_, _<_}
+use mathlib.Core.Path.{_≡_, refl, sym, ap, ap₂, subst, _∙_}
+use mathlib.Core.Bool.{Bool, true, false}
+use mathlib.Core.Logic.{_↔_, ⊎-elim}
+use mathlib.Core.List.{List, [], _∷_, _++_}
+use native.Mathlib.Omega.{arith}
+use borrow.Author.Tests.{ltb-true, ltb-false, lt-ltb, le-ltb}
+use lib.Dec.{ltb}
+use lib.ListN.{length, take}
+use lib.Seq.{take-at}
+use Rattle.base.specs.Bools.{choose, choose-true, choose-false, clash, decide}
+use Rattle.base.specs.Lists.{_∈_, here, Every, Some, all, any, all-every, every-all, any-some, some-any}
+use Rattle.base.specs.Members.{has}
+use Rattle.book.specs.Book.{Book}
+use Rattle.book.specs.Sound.{Orderly}
+use Rattle.book.specs.Decode.{Decoded, accepted, refused, decode}
+use Rattle.judging.specs.Meaning.{explains, Smallest}
+use Rattle.sets.specs.Kept.{zeros}
+use Rattle.searching.specs.Rules.{Outcome, finished, used-up, no-room, listing}
+use Rattle.searching.specs.Main.{Explanations, explanations-none}
+use Rattle.lister.specs.Promise.{Result, turned, searched, byBook, resultOf, answerOf, setsOf, workOf, Explained, Lists}
+use Rattle.lister.specs.declared.Listing.{Listing}
+use Rattle.lister.specs.declared.Listing.the-variants as listing
+use Rattle.book.specs.Accepted.{within}
+use Rattle.book.specs.Reading.{readingOf}
+use Rattle.book.specs.declared.Reading.the-variants.{Accepted, Refused as Refused₁}
+use Rattle.engine.specs.declared.deciding.Asked.{Asked}
+use Rattle.engine.specs.declared.deciding.Asked.the-variants.{Turned, Search}
+use Rattle.engine.specs.declared.Verdict.{Verdict}
+use Rattle.engine.specs.declared.Verdict.the-variants.{Unexplained, Needed, Possible, RuledOut, Refused}
+
+-- the hypothesis is an abducible of the book
+abbrev pub named : Decoded → ℕ → Bool
+named (accepted b) h = ltb h (b .abducibles)
+named (refused n) h = true
+
+-- "23 a judged set or hypothesis names an abducible of B or above": behind the lister's own refusals, and before any search
+abbrev pub asked : Bool → Result → Result
+asked t (turned n) = turned n
+asked true (searched o) = searched o
+asked false (searched o) = turned 23
+
+unfoldable pub verdictResult : List ℕ → ℕ → ℕ → ℕ → ℕ → Result
+verdictResult image h budget room space = asked (named (decode image) h) (resultOf image budget room space)
+
+-- "Unexplained if the list is empty; needed if h is in every set; possible if in some; ruled out if in none." The nodes come last.
+abbrev pub decided : ℕ → List ℕ → ℕ → Verdict
+decided h [] n = Unexplained n
+decided h (s ∷ l) n =
+    choose (all (λ (d : ℕ). has d h) (s ∷ l)) (Needed n) (choose (any (λ (d : ℕ). has d h) (s ∷ l)) (Possible n) (RuledOut n))
+
+-- the answer: a refusal's number with its nodes, or the verdict
+abbrev pub verdictOf : ℕ → Result → Verdict
+verdictOf h (turned n) = Refused n 0
+verdictOf h (searched (finished l n)) = decided h l n
+verdictOf h (searched (used-up n)) = Refused 30 n
+verdictOf h (searched (no-room n)) = Refused 31 n
+
+-- the answer, and list and work area as the listing leaves them
+pub record Verdicts (image : List ℕ) (h budget : ℕ) (list area : List ℕ) (r : Verdict) (list′ area′ : List ℕ) : Type 0 where
+  pub answer : r ≡ verdictOf h (verdictResult image h budget (length list) (length area))
+  pub sets : list′ ≡ setsOf (verdictResult image h budget (length list) (length area)) list
+  pub work : area′ ≡ workOf (verdictResult image h budget (length list) (length area)) area
+
+-- two results that meet the promise are equal
+pub verdicts-unique : (image : List ℕ) (h budget : ℕ) (list area : List ℕ) (r q : Verdict) (list₁ area₁ list₂ area₂ : List ℕ)
+    → Verdicts image h budget list area r list₁ area₁ → Verdicts image h budget list area q list₂ area₂
+    → (r ≡ q) × (list₁ ≡ list₂) × (area₁ ≡ area₂)
+verdicts-unique image h budget list area r q list₁ area₁ list₂ area₂ a b =
+    (a .answer ∙ sym (b .answer), a .sets ∙ sym (b .sets), a .work ∙ sym (b .work))
+
+-- ---- in words of sets
+
+-- h is in every smallest explaining set
+abbrev pub InEvery : Book → ℕ → Type 0
+InEvery b h = (d : ℕ) → Smallest b d → has d h ≡ true
+
+-- h is in some smallest explaining set
+abbrev pub InSome : Book → ℕ → Type 0
+InSome b h = (d : ℕ) × Smallest b d × (has d h ≡ true)
+
+-- some set explains
+abbrev pub Explainable : Book → Type 0
+Explainable b = (d : ℕ) × (explains b d ≡ true)
+
+-- what each verdict on an explained book says
+abbrev pub Says : Book → ℕ → Verdict → Type 0
+Says b h (Unexplained n) = Explainable b → ⊥
+Says b h (Needed n) = InSome b h × InEvery b h
+Says b h (Possible n) = InSome b h × (InEvery b h → ⊥)
+Says b h (RuledOut n) = ((d : ℕ) × Smallest b d) × (InSome b h → ⊥)
+Says b h (Refused m n) = ⊥
+
+pub decided-says : (b : Book) (o : Orderly b) (h : ℕ) (l : List ℕ) (n : ℕ) → Explanations b l → Says b h (decided h l n)
+decided-says b o h [] n e = λ x. explanations-none b o [] e .0 refl (x .0) (x .1)
+decided-says b o h (s ∷ l) n e = go (all (λ (d : ℕ). has d h) (s ∷ l)) refl (any (λ (d : ℕ). has d h) (s ∷ l)) refl
+  where
+    test : ℕ → Bool
+    test d = has d h
+    first : Smallest b s
+    first = e .members s .0 here
+    some : any test (s ∷ l) ≡ true → InSome b h
+    some t = let f = any-some test (s ∷ l) t in (f .0, e .members (f .0) .0 (f .1), f .2)
+    go : (t : Bool) → all test (s ∷ l) ≡ t → (u : Bool) → any test (s ∷ l) ≡ u → Says b h (choose t (Needed n) (choose u (Possible n) (RuledOut n)))
+    go true t u q =
+        let each = all-every test (s ∷ l) t in
+        ((s, first, each s here), λ d m. each d (e .members d .1 m))
+    go false t true q = (some q, λ each. clash (every-all test (s ∷ l) (λ d m. each d (e .members d .0 m))) t)
+    go false t false q = ((s, first), λ f. clash (some-any test (s ∷ l) (f .0, e .members (f .0) .1 (f .1), f .2)) q)
+
+-- ---- the ways to a verdict
+
+-- what the tests before any search say: a refusal's number, or that the search may begin
+abbrev pub Early : List ℕ → ℕ → ℕ → ℕ → ℕ → Asked → Type 0
+Early image h budget room space (Turned n) = verdictResult image h budget room space ≡ turned n
+Early image h budget room space Search = (verdictResult image h budget room space ≡ resultOf image budget room space) × (h < 64)
+
+-- an image that was accepted has a book
+pub book-of : (image : List ℕ) → Accepted ≡ readingOf (decode image) → (b : Book) × (decode image ≡ accepted b)
+book-of image e = go (decode image) e refl
+  where
+    go : (d : Decoded) → Accepted ≡ readingOf d → decode image ≡ d → (b : Book) × (decode image ≡ accepted b)
+    go (accepted b) q r = (b, r)
+    go (refused m) q r = let z : _≡_ {A = ℕ} 0 1 = cc in absurd (omega arith)
+
+module _ (image : List ℕ) (h budget room space : ℕ) where
+  pub early-refused : (n : ℕ) → Refused₁ n ≡ readingOf (decode image) → Early image h budget room space (Turned n)
+  unfolding verdictResult resultOf
+  early-refused n e = go (decode image) e
+    where
+      go : (d : Decoded) → Refused₁ n ≡ readingOf d → asked (named d h) (byBook d room space budget) ≡ turned n
+      go (accepted b) q = let z : _≡_ {A = ℕ} 0 1 = cc in absurd (omega arith)
+      go (refused m) q = let same : n ≡ m = cc in ap turned (sym same)
+
+  -- what an accepted image's book and the numbers decide
+  abbrev onBook : Book → Result
+  onBook b = asked (ltb h (b .abducibles)) (byBook (accepted b) room space budget)
+
+  on-book : (b : Book) → decode image ≡ accepted b → verdictResult image h budget room space ≡ onBook b
+  unfolding verdictResult resultOf
+  on-book b e = ap (λ (d : Decoded). asked (named d h) (byBook d room space budget)) e
+
+  module _ (b : Book) (e : decode image ≡ accepted b) where
+    pub early-long : 1024 < room → Early image h budget room space (Turned 20)
+    early-long p = on-book b e ∙ ap (asked (ltb h (b .abducibles))) (choose-true _ _ (lt-ltb 1024 room p))
+
+    pub early-short : room ≤ 1024 → space < 16384 → Early image h budget room space (Turned 21)
+    early-short p q =
+        on-book b e ∙ ap (asked (ltb h (b .abducibles))) (choose-false _ _ (le-ltb 1024 room p) ∙ choose-true _ _ (lt-ltb space 16384 q))
+
+    pub early-budget : room ≤ 1024 → 16384 ≤ space → 1000000 < budget → Early image h budget room space (Turned 22)
+    early-budget p q r =
+        on-book b e
+        ∙ ap (asked (ltb h (b .abducibles)))
+        (choose-false _ _ (le-ltb 1024 room p) ∙ choose-false _ _ (le-ltb space 16384 q) ∙ choose-true _ _ (lt-ltb 1000000 budget r))
+
+    free : room ≤ 1024 → 16384 ≤ space → budget ≤ 1000000 → byBook (accepted b) room space budget ≡ searched (listing b room budget)
+    free p q r = choose-false _ _ (le-ltb 1024 room p) ∙ choose-false _ _ (le-ltb space 16384 q) ∙ choose-false _ _ (le-ltb 1000000 budget r)
+
+    pub early-hypothesis : room ≤ 1024 → 16384 ≤ space → budget ≤ 1000000 → b .abducibles ≤ h → Early image h budget room space (Turned 23)
+    early-hypothesis p q r k = on-book b e ∙ ap₂ asked (le-ltb h (b .abducibles) k) (free p q r)
+
+    pub early-search : room ≤ 1024 → 16384 ≤ space → budget ≤ 1000000 → h < b .abducibles → Early image h budget room space Search
+    unfolding resultOf
+    early-search p q r k =
+        let few : b .abducibles ≤ 64 = within image b e .abducibles in
+        (on-book b e
+        ∙ ap₂ asked (lt-ltb h (b .abducibles) k) (free p q r)
+        ∙ sym (ap (λ (d : Decoded). byBook d room space budget) e ∙ free p q r),
+        omega arith)
+
+-- a list that is not empty is decided by its tests
+pub decided-by : (h : ℕ) (l : List ℕ) (n : ℕ) → (length l ≡ 0 → ⊥)
+    → decided h l n ≡ choose (all (λ (d : ℕ). has d h) l) (Needed n) (choose (any (λ (d : ℕ). has d h) l) (Possible n) (RuledOut n))
+decided-by h [] n k = absurd (k refl)
+decided-by h (s ∷ l) n k = refl
+
+-- a refusal before any search
+pub verdict-early : (image : List ℕ) (h budget : ℕ) (list area : List ℕ) (n : ℕ) → Early image h budget (length list) (length area) (Turned n)
+    → Verdicts image h budget list area (Refused n 0) list area
+verdict-early image h budget list area n e =
+    record {
+      answer = ap (verdictOf h) (sym e);
+      sets = ap (λ (x : Result). setsOf x list) (sym e);
+      work = ap (λ (x : Result). workOf x area) (sym e)
+    }
+
+-- a listing that was refused on the way, and one that finished
+module _ (image : List ℕ) (h budget : ℕ) (list area list′ area′ : List ℕ)
+    (e : verdictResult image h budget (length list) (length area) ≡ resultOf image budget (length list) (length area)) where
+  module _ (r : Listing) (lists : Lists image budget list area r list′ area′) where
+    result : Result
+    result = resultOf image budget (length list) (length area)
+
+    left : (q : Verdict) → q ≡ verdictOf h result → Verdicts image h budget list area q list′ area′
+    unfolding result
+    left q a =
+        record {
+          answer = a ∙ ap (verdictOf h) (sym e);
+          sets = lists .sets ∙ ap (λ (x : Result). setsOf x list) (sym e);
+          work = lists .work ∙ ap (λ (x : Result). workOf x area) (sym e)
+        }
+
+    pub verdict-refused : (m n : ℕ) → r ≡ listing.Refused m n → Verdicts image h budget list area (Refused m n) list′ area′
+    unfolding result
+    verdict-refused m n i = left (Refused m n) (go result (sym i ∙ lists .answer))
+      where
+        go : (x : Result) → listing.Refused m n ≡ answerOf x → Refused m n ≡ verdictOf h x
+        go (turned k) q = let a : m ≡ k = cc in let c : n ≡ 0 = cc in ap₂ Refused a c
+        go (searched (finished l k)) q = let z : _≡_ {A = ℕ} 0 1 = cc in absurd (omega arith)
+        go (searched (used-up k)) q = let a : m ≡ 30 = cc in let c : n ≡ k = cc in ap₂ Refused a c
+        go (searched (no-room k)) q = let a : m ≡ 31 = cc in let c : n ≡ k = cc in ap₂ Refused a c
+
+    pub verdict-listed : (k n : ℕ) → r ≡ listing.Listed k n → Verdicts image h budget list area (decided h (take k list′) n) list′ area′
+    unfolding result
+    verdict-listed k n i = left (decided h (take k list′) n) (go result (sym i ∙ lists .answer) (lists .sets))
+      where
+        go : (x : Result) → listing.Listed k n ≡ answerOf x → list′ ≡ setsOf x list → decided h (take k list′) n ≡ verdictOf h x
+        go (turned j) q t = let z : _≡_ {A = ℕ} 0 1 = cc in absurd (omega arith)
+        go (searched (finished l j)) q t =
+            let many : length l ≡ k = cc in
+            let nodes : n ≡ j = cc in
+            ap₂ (λ (x : List ℕ) (m : ℕ). decided h x m) (ap (take k) t ∙ take-at l (zeros (length list - length l)) k many) nodes
+        go (searched (used-up j)) q t = let z : _≡_ {A = ℕ} 0 1 = cc in absurd (omega arith)
+        go (searched (no-room j)) q t = let z : _≡_ {A = ℕ} 0 1 = cc in absurd (omega arith)

@@ -1,0 +1,29 @@
+-- `lister::walk::bit` meets its contract. Assumes nothing.
+use Prim.Native.Nat.{ℕ, _/_, _%_, _^_, _<_}
+use mathlib.Core.Path.{_≡_, sym, _∙_}
+use native.Mathlib.Omega.{arith}
+use Rattle.lister.specs.Bits.{bit-even, bit-odd}
+use borrow.Author.Needs.{needs}
+use Rattle.lister.proofs.walk.bit.Statement.{statement}
+use Rattle.lister.proofs.walk.bit.Tie as tie
+use Rattle.lister.proofs.walk.bit.Reads as reads
+use Rattle.lister.proofs.walk.bit.Lts as lts
+
+-- src/walk.rt:98:25
+cast-result : tie.Need-cast-result
+cast-result c = search needs
+
+-- src/walk.rt:98:16
+shl-result : tie.Need-shl-result
+shl-result c = search needs
+
+-- src/walk.rt:98:9
+returns : tie.Need-returns
+returns c = bit-even (c .before .args .y) (c .before .pre) (c .if1 .taken)
+
+-- src/walk.rt:93:1
+returns-2 : tie.Need-returns-2
+returns-2 c = bit-odd (c .before .args .y) (c .if1 .left)
+
+pub bit-spec : {M : Type 1} → statement M
+bit-spec = tie.close (tie.spec cast-result shl-result returns returns-2)

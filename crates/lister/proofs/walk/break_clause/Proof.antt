@@ -1,0 +1,117 @@
+-- `lister::walk::break_clause` meets its contract. Assumes nothing.
+use Prim.Native.Nat.{ℕ, _+_}
+use mathlib.Core.Path.{_≡_, refl, sym, ap, _∙_}
+use native.Mathlib.Omega.{arith}
+use lib.ListN.{getD}
+use Rattle.lister.specs.Machine.{framed}
+use Rattle.lister.specs.Pieces.{room, short, break-places, break-visited}
+use borrow.Author.Needs.{needs}
+use Rattle.lister.proofs.walk.break_clause.Statement.{statement}
+use Rattle.lister.proofs.walk.break_clause.Tie as tie
+use Rattle.lister.proofs.walk.break_clause.Reads as reads
+use Rattle.lister.proofs.walk.break_clause.Lts as lts
+use Rattle.book.proofs.fields.field_at.Reads as field-at-reads
+use Rattle.lister.proofs.frames.push.Reads as push-reads
+use Rattle.lister.proofs.walk.after_break.Reads as after-break-reads
+use Rattle.lister.proofs.walk.idle.Reads as idle-reads
+
+-- src/walk.rt:197:18
+cast-clause : tie.Need-cast-clause
+cast-clause c = search needs
+
+-- src/walk.rt:198:22
+add-place : tie.Need-add-place
+add-place c = search needs
+
+-- src/walk.rt:198:17
+mul-place : tie.Need-mul-place
+mul-place c = search needs
+
+-- src/walk.rt:198:17
+slice-read-place : tie.Need-slice-read-place
+slice-read-place c = let p = c .before .before .before .before .pre in omega (arith, break-places _ _ _ _ (p .0) (p .1) .clause, room _ _ _ _ (p .0) .2)
+
+-- src/walk.rt:199:21
+add-next : tie.Need-add-next
+add-next c = search needs
+
+-- src/walk.rt:199:16
+mul-next : tie.Need-mul-next
+mul-next c = search needs
+
+-- src/walk.rt:199:16
+slice-read-next : tie.Need-slice-read-next
+slice-read-next c = let p = c .before .before .before .before .before .pre in omega (arith, break-places _ _ _ _ (p .0) (p .1) .clause, room _ _ _ _ (p .0) .2)
+
+-- src/walk.rt:200:14
+cast-at : tie.Need-cast-at
+cast-at c = let p = c .before .before .before .before .before .pre in omega (arith, break-places _ _ _ _ (p .0) (p .1) .stop)
+
+-- src/walk.rt:201:16
+add-stop : tie.Need-add-stop
+add-stop c = let p = c .before .before .before .before .before .pre in omega (arith, break-places _ _ _ _ (p .0) (p .1) .stop)
+
+-- src/walk.rt:201:28
+field-at-requires : tie.Need-field-at-requires
+field-at-requires c κs = let p = c .before .before .before .before .before .pre in omega (arith, break-places _ _ _ _ (p .0) (p .1) .place)
+
+-- src/walk.rt:201:16
+add-stop-2 : tie.Need-add-stop-2
+add-stop-2 c = let p = c .before .before .before .before .before .before .pre in omega (arith, break-places _ _ _ _ (p .0) (p .1) .stop, c .field-at .ensures .0)
+
+-- src/walk.rt:202:9
+after-break-requires : tie.Need-after-break-requires
+after-break-requires c κs = let p = c .before .before .before .before .before .before .before .pre in (break-places _ _ _ _ (p .0) (p .1) .some, break-places _ _ _ _ (p .0) (p .1) .linked)
+
+-- src/walk.rt:203:40
+add-push : tie.Need-add-push
+add-push c = let p = c .before .before .before .before .before .before .before .before .before .pre in omega (arith, break-places _ _ _ _ (p .0) (p .1) .place, short _ _ _ _ (p .0))
+
+-- src/walk.rt:203:5
+push-requires : tie.Need-push-requires
+push-requires c κs = search needs
+
+-- src/walk.rt:204:13
+add-idle : tie.Need-add-idle
+add-idle c = search needs
+
+-- src/walk.rt:204:5
+idle-requires : tie.Need-idle-requires
+idle-requires c κs = search needs
+
+-- src/walk.rt:193:1
+same-length : tie.Need-same-length
+same-length c = search needs
+
+-- src/walk.rt:193:1
+returns : tie.Need-returns
+returns c =
+    let p = c .before .before .before .before .before .before .before .before .before .before .before .before .before .before .pre in
+    let a = c .before .before .before .before .before .before .before .before .before .before .before .before .before .before .args in
+    let place = getD (a .work .now) (1024 + a .r .from) 0 in
+    break-visited _ _ _ _ (p .0) place (c .before .before .before .before .before .before .after-break .result) _ _ (p .1) refl (c .before .before .before .before .before .before .after-break .ensures)
+    (c .before .before .before .before .push .ensures ∙ ap (λ (n : ℕ). framed (a .work .now) (a .r .top) (c .before .before .before .before .before .before .after-break .result) 0 (place + 4) (place + 2 + n) (place + 2 + n)) (c .before .before .before .before .before .before .before .before .field-at .ensures .0))
+    (c .idle .ensures)
+
+pub break-clause-spec : {M : Type 1} → statement M
+break-clause-spec =
+    tie.close
+    (tie.spec
+    cast-clause
+    add-place
+    mul-place
+    slice-read-place
+    add-next
+    mul-next
+    slice-read-next
+    cast-at
+    add-stop
+    field-at-requires
+    add-stop-2
+    after-break-requires
+    add-push
+    push-requires
+    add-idle
+    idle-requires
+    same-length
+    returns)

@@ -1,0 +1,36 @@
+-- `lister::walk::rest_of` meets its contract. Assumes nothing.
+use mathlib.Core.Path.{_≡_, sym, _∙_}
+use borrow.Author.Tests.{lt-ltb, le-ltb}
+use Rattle.base.specs.Bools.{choose-true, choose-false}
+use Rattle.lister.specs.Tasks.{restOf}
+use borrow.Author.Needs.{needs}
+use Rattle.lister.proofs.walk.rest_of.Statement.{statement}
+use Rattle.lister.proofs.walk.rest_of.Tie as tie
+use Rattle.lister.proofs.walk.rest_of.Reads as reads
+use Rattle.lister.proofs.walk.rest_of.Lts as lts
+use Rattle.lister.proofs.frames.cell_of.Reads as cell-of-reads
+
+-- src/walk.rt:73:8
+add-if1 : tie.Need-add-if1
+add-if1 c = search needs
+
+-- src/walk.rt:76:19
+add-t8 : tie.Need-add-t8
+add-t8 c = search needs
+
+-- src/walk.rt:74:9
+returns : tie.Need-returns
+unfolding restOf
+returns c = sym (choose-true _ _ (lt-ltb _ _ (c .if1 .taken)))
+
+-- src/walk.rt:81:5
+cell-of-requires : tie.Need-cell-of-requires
+cell-of-requires c κs = search needs
+
+-- src/walk.rt:66:1
+returns-2 : tie.Need-returns-2
+unfolding restOf
+returns-2 c = c .cell-of .ensures ∙ sym (choose-false _ _ (le-ltb _ _ (c .before .if1 .left)))
+
+pub rest-of-spec : {M : Type 1} → statement M
+rest-of-spec = tie.close (tie.spec add-if1 add-t8 returns cell-of-requires returns-2)

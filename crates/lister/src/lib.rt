@@ -1,0 +1,70 @@
+// The lister: document 01's search rules, run on the image as lent. The agenda, the marks and the frames of the search live in
+// the lent work area, the kept sets in the front of the lent list.
+pub mod area;
+pub mod frames;
+pub mod start;
+pub mod walk;
+
+use book::Reading;
+use book::fields::field_at;
+ghost use mathlib.Core.Path.{_≡_};
+ghost use Prim.Native.Nat.{_≤_};
+ghost use lib.ListN.{length};
+ghost use Rattle.lister.specs.Start.{IsBook};
+ghost use Rattle.lister.specs.Promise.{Lists, Searched};
+
+// The number of sets, or a refusal's number; then the nodes visited.
+pub enum Listing {
+    Listed(u32, u32),
+    Refused(u8, u32),
+}
+
+const LONGEST: usize = 1024;
+
+const SPACE: usize = 16384;
+
+const MOST_BUDGET: u32 = 1000000;
+
+// Lists the smallest explanations of the image's book.
+pub fn list(image: &[u8], budget: u32, sets: &mut [u64], work: &mut [u32]) -> Listing
+    ensures { λ r. ⌜ Lists (now (image .entry)) budget (now (sets .entry)) (now (work .entry)) r (now (sets .exit)) (now (work .exit)) ⌝ }
+{
+    match book::read(image) {
+        Reading::Refused(n) => Listing::Refused(n, 0),
+        Reading::Accepted => {
+            if LONGEST < sets.len() {
+                return Listing::Refused(20, 0);
+            }
+            if work.len() < SPACE {
+                return Listing::Refused(21, 0);
+            }
+            if MOST_BUDGET < budget {
+                return Listing::Refused(22, 0);
+            }
+            list_book(image, budget, sets, work)
+        }
+    }
+}
+
+// The same for an image that is a book's, with a list, a work area and a budget that will do.
+fn list_book(image: &[u8], budget: u32, sets: &mut [u64], work: &mut [u32]) -> Listing
+    requires { ⌜ IsBook (now image) × (length (now sets) ≤ 1024) × (16384 ≤ length (now work)) × (budget ≤ 1000000) ⌝ }
+    ensures { λ r. ⌜ Searched (now (image .entry)) budget (now (sets .entry)) (now (work .entry)) r (now (sets .exit)) (now (work .exit)) ⌝ }
+{
+    let root = start::start(image, work);
+    let abducibles = field_at(image, 7);
+    let r = walk::walk_on(image, budget, abducibles, sets, work, root);
+    area::wipe(work, SPACE);
+    let state = r.state;
+    let count = r.count as usize;
+    if state == 1 {
+        sets::order::order(sets, count);
+        sets::lists::clear(sets, count);
+        return Listing::Listed(r.count, r.nodes);
+    }
+    sets::lists::clear(sets, 0);
+    if state == 30 {
+        return Listing::Refused(30, r.nodes);
+    }
+    Listing::Refused(31, r.nodes)
+}
