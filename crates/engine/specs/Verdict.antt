@@ -9,7 +9,7 @@ use mathlib.Core.List.{List, [], _∷_, _++_}
 use native.Mathlib.Omega.{arith}
 use borrow.Author.Tests.{ltb-true, ltb-false, lt-ltb, le-ltb}
 use lib.Dec.{ltb}
-use lib.ListN.{length, take}
+use lib.ListN.{length, length-append, take}
 use lib.Seq.{take-at}
 use Rattle.base.specs.Bools.{choose, choose-true, choose-false, clash, decide}
 use Rattle.base.specs.Lists.{_∈_, here, Every, Some, all, any, all-every, every-all, any-some, some-any}
@@ -179,14 +179,34 @@ decided-by h [] n k = absurd (k refl)
 decided-by h (s ∷ l) n k = refl
 
 -- a refusal before any search
-pub verdict-early : (image : List ℕ) (h budget : ℕ) (list area : List ℕ) (n : ℕ) → Early image h budget (length list) (length area) (Turned n)
+pub verdict-early : (image : List ℕ) (h budget : ℕ) (list area : List ℕ) (n : ℕ) (r : Asked) → Early image h budget (length list) (length area) r → r ≡ Turned n
     → Verdicts image h budget list area (Refused n 0) list area
-verdict-early image h budget list area n e =
+verdict-early image h budget list area n r early i =
+    let e : verdictResult image h budget (length list) (length area) ≡ turned n = subst (Early image h budget (length list) (length area)) i early in
     record {
       answer = ap (verdictOf h) (sym e);
       sets = ap (λ (x : Result). setsOf x list) (sym e);
       work = ap (λ (x : Result). workOf x area) (sym e)
     }
+
+-- a listing has no more sets than entries
+pub lists-count : (image : List ℕ) (budget : ℕ) (list area : List ℕ) (r : Listing) (list′ area′ : List ℕ) → Lists image budget list area r list′ area′
+    → (k n : ℕ) → r ≡ listing.Listed k n → k ≤ length list′
+lists-count image budget list area r list′ area′ lists k n i = go (resultOf image budget (length list) (length area)) (sym i ∙ lists .answer) (lists .sets)
+  where
+    go : (x : Result) → listing.Listed k n ≡ answerOf x → list′ ≡ setsOf x list → k ≤ length list′
+    go (turned j) q t = let z : _≡_ {A = ℕ} 0 1 = cc in absurd (omega arith)
+    go (searched (finished l j)) q t =
+        let many : k ≡ length l = cc in
+        let long : length list′ ≡ length (l ++ zeros (length list - length l)) = ap length t in
+        omega (arith, length-append l (zeros (length list - length l)))
+    go (searched (used-up j)) q t = let z : _≡_ {A = ℕ} 0 1 = cc in absurd (omega arith)
+    go (searched (no-room j)) q t = let z : _≡_ {A = ℕ} 0 1 = cc in absurd (omega arith)
+
+-- the search may begin
+pub search-may : (image : List ℕ) (h budget room space : ℕ) (r : Asked) → Early image h budget room space r → r ≡ Search
+    → (verdictResult image h budget room space ≡ resultOf image budget room space) × (h < 64)
+search-may image h budget room space r early i = subst (Early image h budget room space) i early
 
 -- a listing that was refused on the way, and one that finished
 module _ (image : List ℕ) (h budget : ℕ) (list area list′ area′ : List ℕ)

@@ -1,3 +1,8 @@
+-- `engine::verdict_on` meets its promise: a refusal before any search, one of the listing, or the verdict by its list.
+-- Assumes nothing.
+use mathlib.Core.Path.{sym, subst}
+use Rattle.engine.specs.Verdict.{Verdicts, verdict-early, lists-count, search-may, verdict-refused, verdict-listed}
+use Rattle.engine.specs.declared.Verdict.{Verdict}
 use borrow.Author.Needs.{needs}
 use Rattle.engine.proofs.verdict_on.Statement.{statement}
 use Rattle.engine.proofs.verdict_on.Tie as tie
@@ -33,11 +38,13 @@ enum-known-count c = search needs
 
 -- src/lib.rt:50:46
 decide-requires : tie.Need-decide-requires
-decide-requires c κs = ?
+decide-requires c κs = 
+    (lists-count _ _ _ _ _ _ _ (c .before .before .before .before .before .before .before .before .list .ensures) _ _ (c .before .before .count .given .1),
+    search-may _ _ _ _ _ _ (c .before .before .before .before .before .before .before .before .before .before .before .before .before .before-search .ensures) (c .before .before .before .before .before .before .before .before .before .before .before .enum-told .given .1) .1)
 
 -- src/lib.rt:42:1
 returns : tie.Need-returns
-returns c = ?
+returns c = verdict-early _ _ _ _ _ _ _ (c .before .before .before .before-search .ensures) (c .before .asked .given .1)
 
 -- src/lib.rt:42:1
 same-length : tie.Need-same-length
@@ -49,7 +56,9 @@ same-length-2 c = search needs
 
 -- src/lib.rt:42:1
 returns-2 : tie.Need-returns-2
-returns-2 c = ?
+returns-2 c = 
+    verdict-refused _ _ _ _ _ _ _ (search-may _ _ _ _ _ _ (c .before .before .before .before .before .before .before .before .before .before .before .before .before-search .ensures) (c .before .before .before .before .before .before .before .before .before .before .enum-told .given .1) .0) _ (c .before .before .before .before .before .before .before .list .ensures) _ _
+    (c .before .number .given .1)
 
 -- src/lib.rt:42:1
 same-length-3 : tie.Need-same-length-3
@@ -61,7 +70,13 @@ same-length-4 c = search needs
 
 -- src/lib.rt:42:1
 returns-3 : tie.Need-returns-3
-returns-3 c = ?
+returns-3 c = 
+    let a = c .before .before .before .before .before .before .before .before .before .before .before .before .before .before .before .before .before .before .args in
+    subst
+    (λ (q : Verdict). Verdicts (a .image .now) (a .hypothesis) (a .budget) (a .sets .now) (a .work .now) q (c .before .before .before .before .before .before .before .before .before .list .last .1 .1 .0) (c .before .before .before .before .before .before .before .before .before .list .last .1 .1 .1 .0))
+    (sym (c .decide .ensures))
+    (verdict-listed _ _ _ _ _ _ _ (search-may _ _ _ _ _ _ (c .before .before .before .before .before .before .before .before .before .before .before .before .before .before .before-search .ensures) (c .before .before .before .before .before .before .before .before .before .before .before .before .enum-told .given .1) .0) _ (c .before .before .before .before .before .before .before .before .before .list .ensures) _ _
+    (c .before .before .before .count .given .1))
 
 pub verdict-on-spec : {M : Type 1} → statement M
 verdict-on-spec =
