@@ -1,27 +1,26 @@
 -- What `verdict_on` promises, after document 01, "Judge, verdict, joiner": it lists first and passes on any refusal; then it decides
 -- by the list.
 -- Assumes nothing.
-use Prim.Native.Nat.{ℕ, zero, suc, _-_, _≤_, _<_}
+use Prim.Native.Nat.{ℕ, _-_, _≤_, _<_}
 use mathlib.Core.Path.{_≡_, refl, sym, ap, ap₂, subst, _∙_}
 use mathlib.Core.Bool.{Bool, true, false}
-use mathlib.Core.Logic.{_↔_, ⊎-elim}
 use mathlib.Core.List.{List, [], _∷_, _++_}
 use native.Mathlib.Omega.{arith}
-use borrow.Author.Tests.{ltb-true, ltb-false, lt-ltb, le-ltb}
+use borrow.Author.Tests.{lt-ltb, le-ltb}
 use lib.Dec.{ltb}
 use lib.ListN.{length, length-append, take}
 use lib.Seq.{take-at}
 use Rattle.base.specs.Bools.{choose, choose-true, choose-false, clash, decide}
-use Rattle.base.specs.Lists.{_∈_, here, Every, Some, all, any, all-every, every-all, any-some, some-any}
+use Rattle.base.specs.Lists.{here, all, any, all-every, every-all, any-some, some-any}
 use Rattle.base.specs.Members.{has}
 use Rattle.book.specs.Book.{Book}
 use Rattle.book.specs.Sound.{Orderly}
 use Rattle.book.specs.Decode.{Decoded, accepted, refused, decode}
 use Rattle.judging.specs.Meaning.{explains, Smallest}
 use Rattle.sets.specs.Kept.{zeros}
-use Rattle.searching.specs.Rules.{Outcome, finished, used-up, no-room, listing}
+use Rattle.searching.specs.Rules.{finished, used-up, no-room, listing}
 use Rattle.searching.specs.Main.{Explanations, explanations-none}
-use Rattle.lister.specs.Promise.{Result, turned, searched, byBook, resultOf, answerOf, setsOf, workOf, Explained, Lists}
+use Rattle.lister.specs.Promise.{Result, turned, searched, byBook, resultOf, answerOf, setsOf, workOf, Lists}
 use Rattle.lister.specs.declared.Listing.{Listing}
 use Rattle.lister.specs.declared.Listing.the-variants as listing
 use Rattle.book.specs.Accepted.{within}
@@ -100,10 +99,13 @@ decided-says b o h (s ∷ l) n e = go (all (λ (d : ℕ). has d h) (s ∷ l)) re
   where
     test : ℕ → Bool
     test d = has d h
+
     first : Smallest b s
     first = e .members s .0 here
+
     some : any test (s ∷ l) ≡ true → InSome b h
     some t = let f = any-some test (s ∷ l) t in (f .0, e .members (f .0) .0 (f .1), f .2)
+
     go : (t : Bool) → all test (s ∷ l) ≡ t → (u : Bool) → any test (s ∷ l) ≡ u → Says b h (choose t (Needed n) (choose u (Possible n) (RuledOut n)))
     go true t u q =
         let each = all-every test (s ∷ l) t in
@@ -166,11 +168,12 @@ module _ (image : List ℕ) (h budget room space : ℕ) where
     pub early-search : room ≤ 1024 → 16384 ≤ space → budget ≤ 1000000 → h < b .abducibles → Early image h budget room space Search
     unfolding resultOf
     early-search p q r k =
-        let few : b .abducibles ≤ 64 = within image b e .abducibles in
-        (on-book b e
-        ∙ ap₂ asked (lt-ltb h (b .abducibles) k) (free p q r)
-        ∙ sym (ap (λ (d : Decoded). byBook d room space budget) e ∙ free p q r),
-        omega arith)
+        let few : b .abducibles ≤ 64 = within image b e .abducibles in (
+          on-book b e
+              ∙ ap₂ asked (lt-ltb h (b .abducibles) k) (free p q r)
+              ∙ sym (ap (λ (d : Decoded). byBook d room space budget) e ∙ free p q r),
+          omega arith,
+        )
 
 -- a list that is not empty is decided by its tests
 pub decided-by : (h : ℕ) (l : List ℕ) (n : ℕ) → (length l ≡ 0 → ⊥)
@@ -186,7 +189,7 @@ verdict-early image h budget list area n r early i =
     record {
       answer = ap (verdictOf h) (sym e);
       sets = ap (λ (x : Result). setsOf x list) (sym e);
-      work = ap (λ (x : Result). workOf x area) (sym e)
+      work = ap (λ (x : Result). workOf x area) (sym e);
     }
 
 -- a listing has no more sets than entries
@@ -221,7 +224,7 @@ module _ (image : List ℕ) (h budget : ℕ) (list area list′ area′ : List �
         record {
           answer = a ∙ ap (verdictOf h) (sym e);
           sets = lists .sets ∙ ap (λ (x : Result). setsOf x list) (sym e);
-          work = lists .work ∙ ap (λ (x : Result). workOf x area) (sym e)
+          work = lists .work ∙ ap (λ (x : Result). workOf x area) (sym e);
         }
 
     pub verdict-refused : (m n : ℕ) → r ≡ listing.Refused m n → Verdicts image h budget list area (Refused m n) list′ area′

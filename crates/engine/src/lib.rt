@@ -1,10 +1,10 @@
 // The engine's face: document 01's calls on a rule book, each with its promise. No call has a `requires`: on all bytes and numbers
 // it ends with an answer or a numbered refusal. The promises stand in specs/, one file for each call. The reader is `book::read`.
 
+use deciding::Asked;
 pub use judging::Judgement;
 pub use lister::Listing;
 pub use sets::Joined;
-use deciding::Asked;
 ghost use Rattle.engine.specs.Judge.{Judges};
 ghost use Rattle.engine.specs.List.{Lists};
 ghost use Rattle.engine.specs.Verdict.{Verdicts};
@@ -39,7 +39,13 @@ pub fn list(image: &[u8], budget: u32, sets: &mut [u64], work: &mut [u32]) -> Li
 
 // Whether the hypothesis is needed, possible or ruled out by the list of smallest explanations, or nothing explains; or a refusal,
 // as of `list`, or 23 before any search.
-pub fn verdict_on(image: &[u8], hypothesis: u32, budget: u32, sets: &mut [u64], work: &mut [u32]) -> Verdict
+pub fn verdict_on(
+    image: &[u8],
+    hypothesis: u32,
+    budget: u32,
+    sets: &mut [u64],
+    work: &mut [u32],
+) -> Verdict
     ensures { λ r. ⌜ Verdicts (now (image .entry)) hypothesis budget (now (sets .entry)) (now (work .entry)) r (now (sets .exit)) (now (work .exit)) ⌝ }
 {
     let asked = deciding::before_search(image, hypothesis, budget, sets.len(), work.len());

@@ -10,6 +10,11 @@ pub struct Number {
     pub value: u64,
 }
 
+pub struct Small {
+    pub ok: bool,
+    pub value: u32,
+}
+
 pub struct Length {
     pub ok: bool,
     pub value: usize,
@@ -27,6 +32,13 @@ pub fn list_buffer() -> [u64; 1100]
     ensures { λ r. ⌜ 1100 ≡ length r ⌝ }
 {
     [7; 1100]
+}
+
+// 20,000 work numbers, all 9.
+pub fn work_buffer() -> [u32; 20000]
+    ensures { λ r. ⌜ 20000 ≡ length r ⌝ }
+{
+    [9; 20000]
 }
 
 fn missing() -> Number
@@ -142,6 +154,33 @@ pub fn take_room(most: usize) -> Length
     Length {
         ok: true,
         value: len,
+    }
+}
+
+// A work area of at most `most` numbers.
+pub fn take_space(most: usize) -> Length
+    ensures { λ r. ⌜ r .value ≤ most ⌝ }
+{
+    let n = take_u32();
+    if !n.ok {
+        return no_length();
+    }
+    let len = n.value as usize;
+    if most < len {
+        return no_length();
+    }
+    Length {
+        ok: true,
+        value: len,
+    }
+}
+
+// A budget or a hypothesis, of four bytes.
+pub fn take_number() -> Small {
+    let n = take_u32();
+    Small {
+        ok: n.ok,
+        value: n.value as u32,
     }
 }
 

@@ -16,12 +16,18 @@ pub fn numbered(word: &[u8], n: u64) {
     io::write_all(1, b"\n");
 }
 
+// A word with its number, and the nodes.
+pub fn searched(word: &[u8], number: u32, nodes: u32) {
+    count(word, number as u64);
+    count(b" nodes ", nodes as u64);
+}
+
 fn entry(set: u64) {
     io::write_all(1, b" ");
     io::print_decimal(1, set);
 }
 
-// ` sets`, the entries, and the line's end.
+// ` sets` and the entries.
 pub fn entries(list: &[u64]) {
     io::write_all(1, b" sets");
     let mut i = 0;
@@ -29,9 +35,40 @@ pub fn entries(list: &[u64]) {
         entry(list[i]);
         i += 1;
     }
-    end();
 }
 
-fn end() {
+// Whether the numbers from `from` on, up to `to`, are all this one.
+fn are(work: &[u32], from: usize, to: usize, number: u32) -> bool {
+    let mut i = from;
+    while i < to {
+        if i < work.len() {
+            if work[i] != number {
+                return false;
+            }
+        }
+        i += 1;
+    }
+    true
+}
+
+// How the work area was left: its numbers were all 9 before.
+pub fn work_state(work: &[u32]) {
+    let n = work.len();
+    if are(work, 0, n, 9) {
+        io::write_all(1, b" work untouched");
+        return;
+    }
+    if 16384 <= n {
+        if are(work, 0, 16384, 0) {
+            if are(work, 16384, n, 9) {
+                io::write_all(1, b" work clean");
+                return;
+            }
+        }
+    }
+    io::write_all(1, b" work other");
+}
+
+pub fn end() {
     io::write_all(1, b"\n");
 }

@@ -6,71 +6,53 @@ use Rattle.engine.specs.declared.Verdict.{Verdict}
 use borrow.Author.Needs.{needs}
 use Rattle.engine.proofs.verdict_on.Statement.{statement}
 use Rattle.engine.proofs.verdict_on.Tie as tie
-use Rattle.engine.proofs.verdict_on.Reads as reads
-use Rattle.engine.proofs.verdict_on.Lts as lts
-use Rattle.engine.proofs.deciding.before_search.Reads as before-search-reads
-use Rattle.engine.proofs.deciding.decide.Reads as decide-reads
-use Rattle.lister.proofs.list.Reads as list-reads
 
--- src/lib.rt:45:9
 before-search-requires : tie.Need-before-search-requires
 before-search-requires c κs = search needs
 
--- src/lib.rt:47:23
 enum-known-asked : tie.Need-enum-known-asked
 enum-known-asked c = search needs
 
--- src/lib.rt:48:60
 enum-told : tie.Need-enum-told
 enum-told c = search needs
 
--- src/lib.rt:48:32
 list-requires : tie.Need-list-requires
 list-requires c κs = search needs
 
--- src/lib.rt:49:30
 enum-known-number : tie.Need-enum-known-number
 enum-known-number c = search needs
 
--- src/lib.rt:50:29
 enum-known-count : tie.Need-enum-known-count
 enum-known-count c = search needs
 
--- src/lib.rt:50:46
 decide-requires : tie.Need-decide-requires
-decide-requires c κs = 
-    (lists-count _ _ _ _ _ _ _ (c .before .before .before .before .before .before .before .before .list .ensures) _ _ (c .before .before .count .given .1),
-    search-may _ _ _ _ _ _ (c .before .before .before .before .before .before .before .before .before .before .before .before .before .before-search .ensures) (c .before .before .before .before .before .before .before .before .before .before .before .enum-told .given .1) .1)
+decide-requires c κs = (
+  lists-count _ _ _ _ _ _ _ (c .before .before .before .before .before .before .before .before .list .ensures) _ _ (c .before .before .count .given .1),
+  search-may _ _ _ _ _ _ (c .before .before .before .before .before .before .before .before .before .before .before .before .before .before-search .ensures) (c .before .before .before .before .before .before .before .before .before .before .before .enum-told .given .1) .1,
+)
 
--- src/lib.rt:42:1
 returns : tie.Need-returns
 returns c = verdict-early _ _ _ _ _ _ _ (c .before .before .before .before-search .ensures) (c .before .asked .given .1)
 
--- src/lib.rt:42:1
 same-length : tie.Need-same-length
 same-length c = search needs
 
--- src/lib.rt:42:1
 same-length-2 : tie.Need-same-length-2
 same-length-2 c = search needs
 
--- src/lib.rt:42:1
 returns-2 : tie.Need-returns-2
-returns-2 c = 
+returns-2 c =
     verdict-refused _ _ _ _ _ _ _ (search-may _ _ _ _ _ _ (c .before .before .before .before .before .before .before .before .before .before .before .before .before-search .ensures) (c .before .before .before .before .before .before .before .before .before .before .enum-told .given .1) .0) _ (c .before .before .before .before .before .before .before .list .ensures) _ _
     (c .before .number .given .1)
 
--- src/lib.rt:42:1
 same-length-3 : tie.Need-same-length-3
 same-length-3 c = search needs
 
--- src/lib.rt:42:1
 same-length-4 : tie.Need-same-length-4
 same-length-4 c = search needs
 
--- src/lib.rt:42:1
 returns-3 : tie.Need-returns-3
-returns-3 c = 
+returns-3 c =
     let a = c .before .before .before .before .before .before .before .before .before .before .before .before .before .before .before .before .before .before .args in
     subst
     (λ (q : Verdict). Verdicts (a .image .now) (a .hypothesis) (a .budget) (a .sets .now) (a .work .now) q (c .before .before .before .before .before .before .before .before .before .list .last .1 .1 .0) (c .before .before .before .before .before .before .before .before .before .list .last .1 .1 .1 .0))

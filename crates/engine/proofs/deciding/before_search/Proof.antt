@@ -8,20 +8,13 @@ use Rattle.engine.specs.Verdict.{book-of, early-refused, early-long, ear
 use borrow.Author.Needs.{needs}
 use Rattle.engine.proofs.deciding.before_search.Statement.{statement}
 use Rattle.engine.proofs.deciding.before_search.Tie as tie
-use Rattle.engine.proofs.deciding.before_search.Reads as reads
-use Rattle.engine.proofs.deciding.before_search.Lts as lts
-use Rattle.book.proofs.fields.field_at.Reads as field-at-reads
-use Rattle.book.proofs.read.Reads as read-reads
 
--- src/deciding.rt:22:11
 read-requires : tie.Need-read-requires
 read-requires c κs = search needs
 
--- src/deciding.rt:23:26
 enum-known-n : tie.Need-enum-known-n
 enum-known-n c = search needs
 
--- src/deciding.rt:25:16
 enum-told : tie.Need-enum-told
 enum-told c = search needs
 
@@ -29,49 +22,42 @@ enum-told c = search needs
 book : (m : tie.After-enum-told) → (b : Book) × (decode (m .before .before .before .before .args .image .now) ≡ accepted b)
 book m = book-of (m .before .before .before .before .args .image .now) (sym (m .enum-told .given .1) ∙ m .before .before .read .ensures .answer)
 
--- src/deciding.rt:26:17
 returns : tie.Need-returns
-returns c = 
+returns c =
     let b = book (c .before) in
     early-long _ _ _ _ _ (b .0) (b .1) (c .if1 .taken)
 
--- src/deciding.rt:29:17
 returns-2 : tie.Need-returns-2
-returns-2 c = 
+returns-2 c =
     let b = book (c .before .before) in
     early-short _ _ _ _ _ (b .0) (b .1) (c .before .if1 .left) (c .if2 .taken)
 
--- src/deciding.rt:32:17
 returns-3 : tie.Need-returns-3
-returns-3 c = 
+returns-3 c =
     let b = book (c .before .before .before) in
     early-budget _ _ _ _ _ (b .0) (b .1) (c .before .before .if1 .left) (c .before .if2 .left) (c .if3 .taken)
 
--- src/deciding.rt:34:16
 field-at-requires : tie.Need-field-at-requires
-field-at-requires c κs = 
+field-at-requires c κs =
     let b = book (c .before .before .before) in
     let sh = shown _ (b .0) (b .1) in
     let f = sh .front in
     let g = sh .fits in
     omega arith
 
--- src/deciding.rt:35:17
 returns-4 : tie.Need-returns-4
-returns-4 c = 
+returns-4 c =
     let b = book (c .before .before .before .before .before) in
     let a = shown _ (b .0) (b .1) .abducibles in
     early-hypothesis _ _ _ _ _ (b .0) (b .1) (c .before .before .before .before .if1 .left) (c .before .before .before .if2 .left) (c .before .before .if3 .left)
     (omega (arith, c .before .field-at .ensures .0))
 
--- src/deciding.rt:19:1
 returns-5 : tie.Need-returns-5
-returns-5 c = 
+returns-5 c =
     early-refused _ _ _ _ _ _ (sym (c .before .n .given .1) ∙ c .before .before .before .read .ensures .answer)
 
--- src/deciding.rt:19:1
 returns-6 : tie.Need-returns-6
-returns-6 c = 
+returns-6 c =
     let b = book (c .before .before .before .before .before) in
     let a = shown _ (b .0) (b .1) .abducibles in
     early-search _ _ _ _ _ (b .0) (b .1) (c .before .before .before .before .if1 .left) (c .before .before .before .if2 .left) (c .before .before .if3 .left)

@@ -2,7 +2,6 @@
 use mathlib.Core.List.{List}
 use Prim.Native.Nat.{ℕ}
 use mathlib.Core.Path.{_≡_, sym, ap, _∙_}
-use native.Mathlib.Omega.{arith}
 use lib.ListN.{length, take}
 use lib.Seq.{length-take-le}
 use Rattle.base.specs.Bools.{choose-true, choose-false}
@@ -10,14 +9,9 @@ use Rattle.engine.specs.Verdict.{decided, decided-by}
 use borrow.Author.Needs.{needs}
 use Rattle.engine.proofs.deciding.decide.Statement.{statement}
 use Rattle.engine.proofs.deciding.decide.Tie as tie
-use Rattle.engine.proofs.deciding.decide.Reads as reads
-use Rattle.engine.proofs.deciding.decide.Lts as lts
-use Rattle.engine.proofs.deciding.in_every.Reads as in-every-reads
-use Rattle.engine.proofs.deciding.in_some.Reads as in-some-reads
 
--- src/deciding.rt:94:9
 returns : tie.Need-returns
-returns c = 
+returns c =
     let a = c .before .before .args in
     sym (ap (λ (k : ℕ). decided (a .hypothesis) (take k (a .sets .now)) (a .nodes)) (c .if1 .taken))
 
@@ -28,35 +22,29 @@ front m = take (m .before .before .args .count) (m .before .before .args .sets .
 some : (m : tie.Else1) → length (front m) ≡ 0 → ⊥
 some m e = m .if1 .left (sym (length-take-le (m .before .before .args .count) (m .before .before .args .sets .now) (m .before .before .pre .0)) ∙ e)
 
-
--- src/deciding.rt:96:8
 in-every-requires : tie.Need-in-every-requires
 in-every-requires c κs = search needs
 
--- src/deciding.rt:97:9
 returns-2 : tie.Need-returns-2
-returns-2 c = 
+returns-2 c =
     let m = c .before .before in
     sym
     (decided-by (m .before .before .args .hypothesis) (front m) (m .before .before .args .nodes) (some m)
     ∙ choose-true _ _ (sym (c .before .in-every .ensures) ∙ c .if2 .taken))
 
--- src/deciding.rt:99:8
 in-some-requires : tie.Need-in-some-requires
 in-some-requires c κs = search needs
 
--- src/deciding.rt:100:9
 returns-3 : tie.Need-returns-3
-returns-3 c = 
+returns-3 c =
     let m = c .before .before .before .before in
     sym
     (decided-by (m .before .before .args .hypothesis) (front m) (m .before .before .args .nodes) (some m)
     ∙ choose-false _ _ (sym (c .before .before .before .in-every .ensures) ∙ c .before .before .if2 .left)
     ∙ choose-true _ _ (sym (c .before .in-some .ensures) ∙ c .if3 .taken))
 
--- src/deciding.rt:87:1
 returns-4 : tie.Need-returns-4
-returns-4 c = 
+returns-4 c =
     let m = c .before .before .before .before in
     sym
     (decided-by (m .before .before .args .hypothesis) (front m) (m .before .before .args .nodes) (some m)

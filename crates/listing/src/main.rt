@@ -1,0 +1,90 @@
+// Document 01's printing program: lists the smallest explanations of the book whose image stands on standard input, of which it
+// takes at most the first 8,752 bytes, one more than the longest image has.
+use engine::Listing;
+ghost use mathlib.Core.Path.{_≡_};
+ghost use lib.ListN.{length};
+
+const BUDGET: u32 = 100_000;
+
+fn image_buffer() -> [u8; 8752]
+    ensures { λ r. ⌜ 8752 ≡ length r ⌝ }
+{
+    [0; 8752]
+}
+
+fn list_buffer() -> [u64; 256]
+    ensures { λ r. ⌜ 256 ≡ length r ⌝ }
+{
+    [0; 256]
+}
+
+fn work_area() -> [u32; 16384]
+    ensures { λ r. ⌜ 16384 ≡ length r ⌝ }
+{
+    [0; 16384]
+}
+
+// The first line: a word with its number, and the nodes.
+fn head(word: &[u8], number: u32, nodes: u32) {
+    io::write_all(1, word);
+    io::print_decimal(1, number as u64);
+    io::write_all(1, b" nodes ");
+    io::print_decimal(1, nodes as u64);
+    io::write_all(1, b"\n");
+}
+
+fn member(abducible: u32) {
+    io::write_all(1, b" ");
+    io::print_decimal(1, abducible as u64);
+}
+
+// A space before each abducible of the set, ascending.
+fn members(set: u64) {
+    let mut j: u32 = 0;
+    while j < 64 {
+        if (set >> j) % 2 == 1 {
+            member(j);
+        }
+        j += 1;
+    }
+}
+
+fn set_line(place: usize, set: u64) {
+    io::print_decimal(1, place as u64);
+    io::write_all(1, b":");
+    if set == 0 {
+        io::write_all(1, b" none");
+    } else {
+        members(set);
+    }
+    io::write_all(1, b"\n");
+}
+
+// A line for each of the first `count` sets.
+fn lines(sets: &[u64], count: usize) {
+    let mut i = 0;
+    while i < sets.len() {
+        if i < count {
+            set_line(i + 1, sets[i]);
+        }
+        i += 1;
+    }
+}
+
+fn show(image: &[u8], sets: &mut [u64], work: &mut [u32]) {
+    match engine::list(image, BUDGET, sets, work) {
+        Listing::Listed(count, nodes) => {
+            head(b"sets ", count, nodes);
+            lines(sets, count as usize);
+        }
+        Listing::Refused(number, nodes) => head(b"refused ", number as u32, nodes),
+    }
+}
+
+fn main() {
+    let mut image = image_buffer();
+    let mut sets = list_buffer();
+    let mut work = work_area();
+    let n = io::read_full(0, &mut image);
+    show(&image[..n], &mut sets, &mut work);
+}
