@@ -3,7 +3,9 @@
 
 use book::Reading;
 use engine::Joined;
-ghost use Rattle.embed.specs.Codes.{ReadingCode, JoinedCode};
+use engine::Judgement;
+use engine::Listing;
+ghost use Rattle.embed.specs.Codes.{ReadingCode, JudgementCode, ListingCode, JoinedCode};
 
 #[no_mangle]
 pub extern "C" fn wizogbare_read(image: &[u8]) -> u32
@@ -12,6 +14,33 @@ pub extern "C" fn wizogbare_read(image: &[u8]) -> u32
     match book::read(image) {
         Reading::Accepted => 0,
         Reading::Refused(n) => n as u32,
+    }
+}
+
+#[no_mangle]
+pub extern "C" fn wizogbare_judge(image: &[u8], set: u64) -> u64
+    ensures { λ r. ⌜ JudgementCode (now (image .entry)) set r ⌝ }
+{
+    match engine::judge(image, set) {
+        Judgement::Explains => 0,
+        Judgement::FalseGoal(p) => 72057594037927936 + p as u64,
+        Judgement::BrokenConstraint(p) => 144115188075855872 + p as u64,
+        Judgement::Refused(n) => 216172782113783808 + n as u64,
+    }
+}
+
+#[no_mangle]
+pub extern "C" fn wizogbare_list(
+    image: &[u8],
+    budget: u32,
+    sets: &mut [u64],
+    work: &mut [u32],
+) -> u64
+    ensures { λ r. ⌜ ListingCode (now (image .entry)) budget (now (sets .entry)) (now (work .entry)) r (now (sets .exit)) (now (work .exit)) ⌝ }
+{
+    match engine::list(image, budget, sets, work) {
+        Listing::Listed(k, n) => 4294967296 * (k as u64) + n as u64,
+        Listing::Refused(m, n) => 72057594037927936 + 4294967296 * (m as u64) + n as u64,
     }
 }
 

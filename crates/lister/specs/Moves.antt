@@ -40,7 +40,7 @@ readied r c height chosen =
 
 abbrev pub rested : Run → ℕ → ℕ → Run
 rested r height chosen =
-    record { state = r .state; due = 0; kind = 0; from = 0; to = 0; link = 0; top = height; nodes = r .nodes; count = r .count; set = chosen }
+    record { state = r .state; due = 0; kind = r .kind; from = r .from; to = r .to; link = r .link; top = height; nodes = r .nodes; count = r .count; set = chosen }
 
 abbrev pub inHand : Run → Cell
 inHand r = record { kind = r .kind; from = r .from; to = r .to; link = r .link }

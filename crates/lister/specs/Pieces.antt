@@ -21,14 +21,14 @@ use Rattle.searching.specs.Rules.{Node, children, assumed}
 use Rattle.lister.specs.declared.frames.Cell.{Cell}
 use Rattle.lister.specs.declared.walk.Run.{Run}
 use Rattle.lister.specs.Machine.{word, cellAt, framed, wantedOf, Ground, Area, Holds}
-use Rattle.lister.specs.Memory.{framed-later}
+use Rattle.lister.specs.Memory.{framed-later, framed-word}
 use Rattle.lister.specs.Tasks.{restOf, restOfBreak, restOfRule}
 use Rattle.lister.specs.Moves
 use Rattle.lister.specs.Moves.{readied, rested, inHand, bitOf, Body, Rule, Visiting, visiting}
 use Rattle.lister.specs.Back
 use Rattle.lister.specs.Back.{Resting, resting}
 use Rattle.lister.specs.Bits.{assumed-fits}
-use Rattle.lister.specs.Steps.{Ready, Waiting, Visited, Advanced}
+use Rattle.lister.specs.Steps.{Ready, Waiting, Visited, Opened, Advanced}
 
 module _ (s : List ℕ) (ab : ℕ) (w : List ℕ) (r : Run) (pre : Ready s ab w r) where
   here : Visiting s ab (pre .b) w r (pre .x) (pre .later)
@@ -142,6 +142,18 @@ module _ (s : List ℕ) (ab : ℕ) (w : List ℕ) (r : Run) (pre : Ready s ab w 
             subst (λ (l : List ℕ). Holds s ab b l (readied r (record { kind = 3; from = getD w (256 + y / 2) 0; to = 0; link = r .top + 1 }) (r .top + 1) (r .set)) (children b x ++ later)) (sym (entered 0 k))
             (Moves.visit-denies u p q y e m a (odd t) (λ h. n (j ∙ h))))
 
+  -- ways in a new frame
+  opened : (c : Cell) (cursor turn stop : ℕ) (v : List ℕ) (o : Run) → v ≡ framed w (r .top) c 0 cursor turn stop → o ≡ rested r (r .top + 1) (r .set) → Visited s ab w r v o → Opened s ab w r v o
+  opened c cursor turn stop v o i g h =
+      let up : o .top ≡ r .top + 1 = ap (λ (q : Run). q .top) g in
+      let at : o .top - 1 ≡ r .top = omega (arith, up) in
+      record {
+        visited = h;
+        idle = ap (λ (q : Run). q .due) g;
+        some = omega (arith, up);
+        unmarked = ap₂ (λ (u : List ℕ) (k : ℕ). word u k 4) i at ∙ framed-word w (r .top) c 0 cursor turn stop 4 (room .1) (omega arith);
+      }
+
   -- ---- a break
 
   pub record Places (at link : ℕ) : Type 0 where
@@ -167,14 +179,15 @@ module _ (s : List ℕ) (ab : ℕ) (w : List ℕ) (r : Run) (pre : Ready s ab w 
   pub break-visited : (place : ℕ) (c : Cell) (v : List ℕ) (o : Run) → r .kind ≡ 3 → place ≡ getD w (1024 + r .from) 0
       → c ≡ restOfBreak w (getD w (512 + r .from) 0) (r .link)
       → v ≡ framed w (r .top) c 0 (place + 4) (place + 2 + fieldAt s place) (place + 2 + fieldAt s place)
-      → o ≡ rested r (r .top + 1) (r .set) → Visited s ab w r v o
+      → o ≡ rested r (r .top + 1) (r .set) → Opened s ab w r v o
   break-visited place c v o p e z i g =
-      visited-rest (r .top + 1) (r .set) v o g (omega arith)
+      opened c (place + 4) (place + 2 + fieldAt s place) (place + 2 + fieldAt s place) v o i g
+      (visited-rest (r .top + 1) (r .set) v o g (omega arith)
       (ap (drop 16384) i ∙ framed-later w (r .top) c 0 (place + 4) (place + 2 + fieldAt s place) (place + 2 + fieldAt s place) (room .0))
       (λ b x later u.
       subst (λ (l : List ℕ). Holds s ab b l (rested r (r .top + 1) (r .set)) (children b x ++ later))
       (sym (i ∙ ap (λ (d : Cell). framed w (r .top) d 0 (place + 4) (place + 2 + fieldAt s place) (place + 2 + fieldAt s place)) z))
-      (Moves.visit-break u p place e))
+      (Moves.visit-break u p place e)))
 
   -- ---- a constraint
 
@@ -204,14 +217,15 @@ module _ (s : List ℕ) (ab : ℕ) (w : List ℕ) (r : Run) (pre : Ready s ab w 
     pub rule-visited : (place : ℕ) (c : Cell) (v : List ℕ) (o : Run) → place ≡ getD w (1537 + r .from) 0
         → c ≡ restOfRule w (r .from) (r .to) (r .link)
         → v ≡ framed w (r .top) c 0 (place + 4) (place + 4 + 2 * fieldAt s (place + 2)) (place + 2 + fieldAt s place)
-        → o ≡ rested r (r .top + 1) (r .set) → Visited s ab w r v o
+        → o ≡ rested r (r .top + 1) (r .set) → Opened s ab w r v o
     rule-visited place c v o e z i g =
-        visited-rest (r .top + 1) (r .set) v o g (omega arith)
+        opened c (place + 4) (place + 4 + 2 * fieldAt s (place + 2)) (place + 2 + fieldAt s place) v o i g
+        (visited-rest (r .top + 1) (r .set) v o g (omega arith)
         (ap (drop 16384) i ∙ framed-later w (r .top) c 0 (place + 4) (place + 4 + 2 * fieldAt s (place + 2)) (place + 2 + fieldAt s place) (room .0))
         (λ b x later u.
         subst (λ (l : List ℕ). Holds s ab b l (rested r (r .top + 1) (r .set)) (children b x ++ later))
         (sym (i ∙ ap (λ (d : Cell). framed w (r .top) d 0 (place + 4) (place + 4 + 2 * fieldAt s (place + 2)) (place + 2 + fieldAt s place)) z))
-        (Moves.visit-rule u n p m place e))
+        (Moves.visit-rule u n p m place e)))
 
   -- the same, of a kind above 3
   pub keep-places : 3 < r .kind → Ruled (r .from) (r .link)
@@ -220,7 +234,7 @@ module _ (s : List ℕ) (ab : ℕ) (w : List ℕ) (r : Run) (pre : Ready s ab w 
   pub keep-visited : 3 < r .kind → (place : ℕ) (c : Cell) (v : List ℕ) (o : Run) → place ≡ getD w (1537 + r .from) 0
       → c ≡ restOfRule w (r .from) (r .to) (r .link)
       → v ≡ framed w (r .top) c 0 (place + 4) (place + 4 + 2 * fieldAt s (place + 2)) (place + 2 + fieldAt s place)
-      → o ≡ rested r (r .top + 1) (r .set) → Visited s ab w r v o
+      → o ≡ rested r (r .top + 1) (r .set) → Opened s ab w r v o
   keep-visited h = rule-visited (λ e. omega (arith, e)) (omega arith) (λ e. omega (arith, e))
 
 -- ---- a step back
@@ -351,3 +365,19 @@ visited-at {s} {ab} {ab′} {w} {r} {v} {q} e h = subst (λ (n : ℕ). Visited s
 
 pub advanced-at : {s : List ℕ} {ab ab′ : ℕ} {w : List ℕ} {r : Run} {v : List ℕ} {q : Run} → ab ≡ ab′ → Advanced s ab w r v q → Advanced s ab′ w r v q
 advanced-at {s} {ab} {ab′} {w} {r} {v} {q} e h = subst (λ (n : ℕ). Advanced s n w r v q) e h
+
+-- ways in a new frame, and the first of them taken
+pub opened-waiting : (s : List ℕ) (ab : ℕ) (w : List ℕ) (r : Run) (v : List ℕ) (q : Run) → Ready s ab w r → Opened s ab w r v q → Waiting s ab v q
+opened-waiting s ab w r v q p h =
+    record { b = p .b; all = children (p .b) (p .x) ++ p .later; holds = h .visited .holds (p .b) (p .x) (p .later) (p .holds); due = h .idle; some = h .some }
+
+pub opened-advanced : {s : List ℕ} {ab : ℕ} {w : List ℕ} {r : Run} {v : List ℕ} {q : Run} {u : List ℕ} {o : Run} → Opened s ab w r v q → Advanced s ab v q u o → Visited s ab w r u o
+opened-advanced h a = record {
+  holds = λ b x later g. a .holds b (children b x ++ later) (h .visited .holds b x later g);
+  state = a .state ∙ h .visited .state;
+  nodes = a .nodes ∙ h .visited .nodes;
+  count = a .count ∙ h .visited .count;
+  height = omega (arith, a .falls, h .visited .height);
+  due = a .due;
+  later = a .later ∙ h .visited .later;
+}

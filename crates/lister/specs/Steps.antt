@@ -9,7 +9,7 @@ use Rattle.book.specs.Decode.{decode, accepted}
 use Rattle.sets.specs.Kept.{insert}
 use Rattle.searching.specs.Rules.{Node, root, children, Outcome, finished, used-up, no-room, run, run-from}
 use Rattle.lister.specs.declared.walk.Run.{Run}
-use Rattle.lister.specs.Machine.{Holds}
+use Rattle.lister.specs.Machine.{word, Holds}
 
 -- a node is in hand
 pub record Ready (s : List ℕ) (ab : ℕ) (w : List ℕ) (r : Run) : Type 0 where
@@ -46,6 +46,13 @@ pub record Advanced (s : List ℕ) (ab : ℕ) (w : List ℕ) (r : Run) (v : List
   pub falls : q .top + (1 - q .due) < r .top + 1
   pub due : q .due ≤ 1
   pub later : drop 16384 v ≡ drop 16384 w
+
+-- It has been visited, and its ways stand in a new frame.
+pub record Opened (s : List ℕ) (ab : ℕ) (w : List ℕ) (r : Run) (v : List ℕ) (q : Run) : Type 0 where
+  pub visited : Visited s ab w r v q
+  pub idle : q .due ≡ 0
+  pub some : 1 ≤ q .top
+  pub unmarked : word v (q .top - 1) 4 ≡ 0
 
 -- ---- the search
 
@@ -93,7 +100,7 @@ stopped r n =
 
 abbrev pub recounted : Run → ℕ → Run
 recounted r n =
-    record { state = r .state; due = 0; kind = 0; from = 0; to = 0; link = 0; top = r .top; nodes = r .nodes; count = n; set = r .set }
+    record { state = r .state; due = 0; kind = r .kind; from = r .from; to = r .to; link = r .link; top = r .top; nodes = r .nodes; count = n; set = r .set }
 
 -- A success: its set is inserted, or there is no room for it.
 pub data Noted (sets : List ℕ) (r : Run) (after : List ℕ) (q : Run) : Type 0 where

@@ -10,7 +10,7 @@ ghost use Rattle.book.specs.Walk.{fieldAt};
 ghost use Rattle.lister.specs.Machine.{word, wantedOf, framed};
 ghost use Rattle.lister.specs.Tasks.{restOf, restOfBreak, restOfRule};
 ghost use Rattle.lister.specs.Moves.{readied, rested, inHand, bitOf};
-ghost use Rattle.lister.specs.Steps.{Ready, Waiting, Visited, Advanced, Searching, Stepped, Noted, Walked, counting, stopped, recounted};
+ghost use Rattle.lister.specs.Steps.{Ready, Waiting, Visited, Opened, Advanced, Searching, Stepped, Noted, Walked, counting, stopped, recounted};
 
 // Where the search stands: 0 in `state` while it goes on; whether a node is due, and its cell; the number of frames, of nodes
 // visited and of kept sets; and the set of the abducibles wanted true.
@@ -34,10 +34,10 @@ fn idle(r: Run, top: u32, set: u64) -> Run
     Run {
         state: r.state,
         due: 0,
-        kind: 0,
-        from: 0,
-        to: 0,
-        link: 0,
+        kind: r.kind,
+        from: r.from,
+        to: r.to,
+        link: r.link,
         top,
         nodes: r.nodes,
         count: r.count,
@@ -84,10 +84,10 @@ fn rest_of(work: &[u32], r: Run) -> Cell
 
 // The literal that a cell of this kind wants where the image has x.
 fn wanted(kind: u32, x: u32) -> u32
-    requires { ⌜ (kind < 3) × (x < 65536) ⌝ }
+    requires { ⌜ (1 ≤ kind) × (kind < 3) × (x < 65536) ⌝ }
     ensures { λ y. ⌜ y ≡ wantedOf kind x ⌝ }
 {
-    x / 2 * 2 + (x + kind + 1) % 2
+    x ^ (kind - 1)
 }
 
 // The set of an abducible's literal: its atom, or nothing where it is negated.
@@ -191,7 +191,7 @@ fn after_rule(work: &[u32], rule: u32, end: u32, link: u32) -> Cell
 // Visits a node whose first task is to break a clause: each literal of its body is a way.
 fn break_clause(image: &[u8], work: &mut [u32], r: Run) -> Run
     requires { ⌜ Ready (now image) (fieldAt (now image) 7) (now work) r × (r .kind ≡ 3) ⌝ }
-    ensures { λ q. ⌜ Visited (now (image .entry)) (fieldAt (now (image .entry)) 7) (now (work .entry)) r (now (work .exit)) q ⌝ }
+    ensures { λ q. ⌜ Opened (now (image .entry)) (fieldAt (now (image .entry)) 7) (now (work .entry)) r (now (work .exit)) q ⌝ }
 {
     let clause = r.from as usize;
     let place = work[1024 + clause];
@@ -206,7 +206,7 @@ fn break_clause(image: &[u8], work: &mut [u32], r: Run) -> Run
 // Visits a node whose first task is a constraint: the opposite of each condition is a way, and so is each alternative.
 fn keep_rule(image: &[u8], work: &mut [u32], r: Run) -> Run
     requires { ⌜ Ready (now image) (fieldAt (now image) 7) (now work) r × (3 < r .kind) ⌝ }
-    ensures { λ q. ⌜ Visited (now (image .entry)) (fieldAt (now (image .entry)) 7) (now (work .entry)) r (now (work .exit)) q ⌝ }
+    ensures { λ q. ⌜ Opened (now (image .entry)) (fieldAt (now (image .entry)) 7) (now (work .entry)) r (now (work .exit)) q ⌝ }
 {
     let rule = r.from as usize;
     let place = work[1537 + rule];
@@ -218,7 +218,7 @@ fn keep_rule(image: &[u8], work: &mut [u32], r: Run) -> Run
     idle(r, r.top + 1, r.set)
 }
 
-// Visits a node that has a task.
+// Visits a node that has a task. A break or a constraint gives its first way at once.
 fn visit(image: &[u8], abducibles: u32, work: &mut [u32], r: Run) -> Run
     requires { ⌜ Ready (now image) (fieldAt (now image) 7) (now work) r × (abducibles ≡ fieldAt (now image) 7) × (1 ≤ r .kind) ⌝ }
     ensures { λ q. ⌜ Visited (now (image .entry)) (fieldAt (now (image .entry)) 7) (now (work .entry)) r (now (work .exit)) q ⌝ }
@@ -228,9 +228,11 @@ fn visit(image: &[u8], abducibles: u32, work: &mut [u32], r: Run) -> Run
         return want(image, work, abducibles, r);
     }
     if kind == 3 {
-        return break_clause(image, work, r);
+        let broken = break_clause(image, work, r);
+        return next_way(image, work, broken);
     }
-    keep_rule(image, work, r)
+    let kept = keep_rule(image, work, r);
+    next_way(image, work, kept)
 }
 
 // The newest frame, whose literal is marked, gives its next clause; where it has none left, the mark is undone and it goes.
@@ -342,10 +344,10 @@ fn note(sets: &mut [u64], r: Run) -> Run
     Run {
         state: r.state,
         due: 0,
-        kind: 0,
-        from: 0,
-        to: 0,
-        link: 0,
+        kind: r.kind,
+        from: r.from,
+        to: r.to,
+        link: r.link,
         top: r.top,
         nodes: r.nodes,
         count: n,
