@@ -39,6 +39,24 @@ LAYERS = image("abducible a; goal p250; p0 <- a; " + "; ".join(f"p{i + 1} <- p{i
 # A chain of 255 atoms above an abducible, each from the negation of the next.
 NEGATIONS = image("abducible a; goal p254; p0 <- -a; " + "; ".join(f"p{i + 1} <- -p{i}" for i in range(254)))
 
+# The deepest path: 16 goal literals, a body of 513, 511 clauses to break, 128 constraints of 8 literals, and the success.
+DEEPEST = image(
+    "abducible a b; goal x" + " x" * 14 + " -y"
+    + "; x <-" + " a" * 513
+    + "; y <- b" * 511
+    + ("; -> " + "a " * 8) * 128
+)
+
+# The most that one path can hold: 256 atoms marked, 512 clauses broken, 128 constraints kept.
+FULLEST = image(
+    "abducible " + " ".join(f"a{i}" for i in range(64))
+    + "; goal " + " ".join(f"-a{i}" for i in range(16))
+    + "".join(f"; d{i % 192} <- a0" for i in range(512))
+    + "".join("; -> " + " ".join(f"-{name}" for name in names) for names in (
+        [f"a{16 + 8 * k + j}" for j in range(8)] if k < 6 else [f"d{8 * (k - 6) % 192 + j}" for j in range(8)]
+        for k in range(128)))
+)
+
 
 def pairs(count):
     """So many atoms wanted, each from one of two abducibles: 2^count smallest sets."""
