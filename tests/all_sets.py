@@ -1,6 +1,6 @@
 """Judges every set of small random books by a replay program and by this implementation.
 
-Written from the specification alone; shares no code with the engine.
+A driver for the implementation beside it; shares no code with the engine.
 
     python3 all_sets.py --replay "path/to/replay" --seed 1 --books 500
 """

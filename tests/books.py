@@ -1,6 +1,7 @@
 """Books that several tables of stored cases use.
 
-Written from the specification alone; shares no code with the engine.
+Shares no code with the engine. DEEPEST and FULLEST were chosen to fill the
+longest path and the most frames; the others come from the specification alone.
 The books of P5 and P6 are examples 5 and 6 of the document that the
 specification names for its meaning.
 """
