@@ -2,6 +2,7 @@
 // the lent work area, the kept sets in the front of the lent list.
 pub mod area;
 pub mod frames;
+pub mod search;
 pub mod start;
 pub mod walk;
 
@@ -53,7 +54,7 @@ fn list_book(image: &[u8], budget: u32, sets: &mut [u64], work: &mut [u32]) -> L
 {
     let root = start::start(image, work);
     let abducibles = field_at(image, 7);
-    let r = walk::walk_on(image, budget, abducibles, sets, work, root);
+    let r = search::walk_on(image, budget, abducibles, sets, work, root);
     area::wipe(work, SPACE);
     let state = r.state;
     let count = r.count as usize;

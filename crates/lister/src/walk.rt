@@ -1,5 +1,5 @@
-// The search, step by step. Where a node is in hand it is visited, which may push a frame; where none is, the newest frame
-// gives its next node or goes.
+// The moves of the search: a node in hand is visited, which may push a frame; where none is, the newest frame gives its next
+// node or goes.
 use super::frames;
 use super::frames::Cell;
 use book::fields::field_at;
@@ -10,7 +10,7 @@ ghost use Rattle.book.specs.Walk.{fieldAt};
 ghost use Rattle.lister.specs.Machine.{word, wantedOf, framed};
 ghost use Rattle.lister.specs.Tasks.{restOf, restOfBreak, restOfRule};
 ghost use Rattle.lister.specs.Moves.{readied, rested, inHand, bitOf};
-ghost use Rattle.lister.specs.Steps.{Ready, Waiting, Visited, Opened, Advanced, Searching, Stepped, Noted, Walked, counting, stopped, recounted};
+ghost use Rattle.lister.specs.Steps.{Ready, Waiting, Visited, Opened, Advanced};
 
 // Where the search stands: 0 in `state` while it goes on; whether a node is due, and its cell; the number of frames, of nodes
 // visited and of kept sets; and the set of the abducibles wanted true.
@@ -219,7 +219,7 @@ fn keep_rule(image: &[u8], work: &mut [u32], r: Run) -> Run
 }
 
 // Visits a node that has a task. A break or a constraint gives its first way at once.
-fn visit(image: &[u8], abducibles: u32, work: &mut [u32], r: Run) -> Run
+pub fn visit(image: &[u8], abducibles: u32, work: &mut [u32], r: Run) -> Run
     requires { ⌜ Ready (now image) (fieldAt (now image) 7) (now work) r × (abducibles ≡ fieldAt (now image) 7) × (1 ≤ r .kind) ⌝ }
     ensures { λ q. ⌜ Visited (now (image .entry)) (fieldAt (now (image .entry)) 7) (now (work .entry)) r (now (work .exit)) q ⌝ }
 {
@@ -318,7 +318,7 @@ fn next_way(image: &[u8], work: &mut [u32], r: Run) -> Run
     idle(r, below, r.set)
 }
 
-fn advance(image: &[u8], abducibles: u32, work: &mut [u32], r: Run) -> Run
+pub fn advance(image: &[u8], abducibles: u32, work: &mut [u32], r: Run) -> Run
     requires { ⌜ Waiting (now image) (fieldAt (now image) 7) (now work) r × (abducibles ≡ fieldAt (now image) 7) ⌝ }
     ensures { λ q. ⌜ Advanced (now (image .entry)) (fieldAt (now (image .entry)) 7) (now (work .entry)) r (now (work .exit)) q ⌝ }
 {
@@ -328,114 +328,4 @@ fn advance(image: &[u8], abducibles: u32, work: &mut [u32], r: Run) -> Run
         return next_way(image, work, r);
     }
     next_clause(image, work, abducibles, r)
-}
-
-// Puts the set of a success among the kept sets.
-fn note(sets: &mut [u64], r: Run) -> Run
-    requires { ⌜ (r .count ≤ length (now sets)) × (length (now sets) ≤ 1024) ⌝ }
-    ensures { λ q. ⌜ Noted (now (sets .entry)) r (now (sets .exit)) q ⌝ }
-{
-    let held = r.count as usize;
-    let count = sets::kept::insert(sets, held, r.set);
-    if sets.len() < count {
-        return ended(r, 31);
-    }
-    let n = count as u32;
-    Run {
-        state: r.state,
-        due: 0,
-        kind: r.kind,
-        from: r.from,
-        to: r.to,
-        link: r.link,
-        top: r.top,
-        nodes: r.nodes,
-        count: n,
-        set: r.set,
-    }
-}
-
-// The search stopped, with this in `state`.
-fn ended(r: Run, state: u32) -> Run
-    ensures { λ q. ⌜ q ≡ stopped r state ⌝ }
-{
-    Run {
-        state,
-        due: r.due,
-        kind: r.kind,
-        from: r.from,
-        to: r.to,
-        link: r.link,
-        top: r.top,
-        nodes: r.nodes,
-        count: r.count,
-        set: r.set,
-    }
-}
-
-// One node more.
-fn counted(r: Run) -> Run
-    requires { ⌜ r .nodes < 4294967295 ⌝ }
-    ensures { λ q. ⌜ q ≡ counting r ⌝ }
-{
-    Run {
-        state: r.state,
-        due: r.due,
-        kind: r.kind,
-        from: r.from,
-        to: r.to,
-        link: r.link,
-        top: r.top,
-        nodes: r.nodes + 1,
-        count: r.count,
-        set: r.set,
-    }
-}
-
-// One step of the search.
-fn step(
-    image: &[u8],
-    budget: u32,
-    abducibles: u32,
-    sets: &mut [u64],
-    work: &mut [u32],
-    r: Run,
-) -> Run
-    requires { ⌜ Searching (now image) budget (fieldAt (now image) 7) (now sets) (now work) r × (abducibles ≡ fieldAt (now image) 7) ⌝ }
-    ensures { λ q. ⌜ Stepped (now (image .entry)) budget (fieldAt (now (image .entry)) 7) (now (sets .entry)) (now (work .entry)) r (now (sets .exit)) (now (work .exit)) q ⌝ }
-{
-    if r.due == 0 {
-        if r.top == 0 {
-            return ended(r, 1);
-        }
-        return advance(image, abducibles, work, r);
-    }
-    if r.nodes == budget {
-        return ended(r, 30);
-    }
-    let kind = r.kind;
-    let q = counted(r);
-    if kind == 0 {
-        return note(sets, q);
-    }
-    visit(image, abducibles, work, q)
-}
-
-// The search, from where it stands to its end.
-pub fn walk_on(
-    image: &[u8],
-    budget: u32,
-    abducibles: u32,
-    sets: &mut [u64],
-    work: &mut [u32],
-    start: Run,
-) -> Run
-    requires { ⌜ Searching (now image) budget (fieldAt (now image) 7) (now sets) (now work) start × (abducibles ≡ fieldAt (now image) 7) ⌝ }
-    ensures { λ q. ⌜ Walked (now (image .entry)) budget (now (sets .entry)) (now (work .entry)) (now (sets .exit)) (now (work .exit)) q ⌝ }
-{
-    let mut r = start;
-    while r.state == 0 {
-        r = step(image, budget, abducibles, sets, work, r);
-    }
-    r
 }

@@ -11,7 +11,7 @@ use Rattle.lister.proofs.list_book.Lts as lts
 use Rattle.book.proofs.fields.field_at.Reads as field-at-reads
 use Rattle.lister.proofs.area.wipe.Reads as wipe-reads
 use Rattle.lister.proofs.start.start.Reads as start-reads
-use Rattle.lister.proofs.walk.walk_on.Reads as walk-on-reads
+use Rattle.lister.proofs.search.walk_on.Reads as walk-on-reads
 use Rattle.sets.proofs.lists.clear.Reads as clear-reads
 use Rattle.sets.proofs.order.order.Reads as order-reads
 

@@ -1,43 +1,43 @@
--- `lister::walk::note` meets its contract. Assumes nothing.
+-- `lister::search::note` meets its contract. Assumes nothing.
 use mathlib.Core.Path.{refl}
 use Rattle.lister.specs.Search.{note-full, note-inserted}
 use borrow.Author.Needs.{needs}
-use Rattle.lister.proofs.walk.note.Statement.{statement}
-use Rattle.lister.proofs.walk.note.Tie as tie
-use Rattle.lister.proofs.walk.note.Reads as reads
-use Rattle.lister.proofs.walk.note.Lts as lts
-use Rattle.lister.proofs.walk.ended.Reads as ended-reads
+use Rattle.lister.proofs.search.note.Statement.{statement}
+use Rattle.lister.proofs.search.note.Tie as tie
+use Rattle.lister.proofs.search.note.Reads as reads
+use Rattle.lister.proofs.search.note.Lts as lts
+use Rattle.lister.proofs.search.ended.Reads as ended-reads
 use Rattle.sets.proofs.kept.insert.Reads as insert-reads
 
--- src/walk.rt:336:16
+-- src/search.rt:14:16
 cast-held : tie.Need-cast-held
 cast-held c = search needs
 
--- src/walk.rt:337:9
+-- src/search.rt:15:9
 insert-requires : tie.Need-insert-requires
 insert-requires c κs = search needs
 
--- src/walk.rt:339:9
+-- src/search.rt:17:9
 ended-requires : tie.Need-ended-requires
 ended-requires c κs = search needs
 
--- src/walk.rt:339:9
+-- src/search.rt:17:9
 same-length : tie.Need-same-length
 same-length c = search needs
 
--- src/walk.rt:339:9
+-- src/search.rt:17:9
 returns : tie.Need-returns
 returns c = note-full _ _ _ _ _ (c .before .before .before .before .insert .ensures) (c .before .if1 .taken) (c .ended .ensures)
 
--- src/walk.rt:341:13
+-- src/search.rt:19:13
 cast-n : tie.Need-cast-n
 cast-n c = search needs
 
--- src/walk.rt:332:1
+-- src/search.rt:10:1
 same-length-2 : tie.Need-same-length-2
 same-length-2 c = search needs
 
--- src/walk.rt:332:1
+-- src/search.rt:10:1
 returns-2 : tie.Need-returns-2
 returns-2 c = note-inserted _ _ _ _ _ (c .before .before .before .insert .ensures) (c .if1 .left) refl
 

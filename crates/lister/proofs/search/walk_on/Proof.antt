@@ -1,4 +1,4 @@
--- `lister::walk::walk_on` meets its contract. The loop's invariant is `State`: one equation, between the rules' search from the root and from here. Assumes nothing.
+-- `lister::search::walk_on` meets its contract. The loop's invariant is `State`: one equation, between the rules' search from the root and from here. Assumes nothing.
 use Prim.Native.Nat.{ℕ}
 use mathlib.Core.Path.{_≡_, refl, sym, _∙_}
 use mathlib.Core.List.{List}
@@ -7,11 +7,11 @@ use lib.ListN.{length, drop}
 use Rattle.book.specs.Walk.{fieldAt}
 use Rattle.lister.specs.Steps.{State, goes-on, ahead}
 use Rattle.lister.specs.Search.{still-searching, stopped-ending}
-use Rattle.lister.proofs.walk.walk_on.Statement.{statement}
-use Rattle.lister.proofs.walk.walk_on.Tie as tie
-use Rattle.lister.proofs.walk.walk_on.Reads as reads
-use Rattle.lister.proofs.walk.walk_on.Lts as lts
-use Rattle.lister.proofs.walk.step.Reads as step-reads
+use Rattle.lister.proofs.search.walk_on.Statement.{statement}
+use Rattle.lister.proofs.search.walk_on.Tie as tie
+use Rattle.lister.proofs.search.walk_on.Reads as reads
+use Rattle.lister.proofs.search.walk_on.Lts as lts
+use Rattle.lister.proofs.search.step.Reads as step-reads
 
 abbrev Inv-loop : tie.InvT-loop
 Inv-loop image budget abducibles sets₀ work₀ r₀ sets work r = State image budget (fieldAt image 7) sets work r × (length sets ≡ length sets₀) × (length work ≡ length work₀) × (drop 16384 work ≡ drop 16384 work₀)
@@ -19,31 +19,31 @@ Inv-loop image budget abducibles sets₀ work₀ r₀ sets work r = State image 
 abbrev μ-loop : tie.MeasureT-loop
 μ-loop image budget abducibles sets₀ work₀ r₀ sets work r = ahead budget r
 
--- src/walk.rt:421:5
+-- src/search.rt:113:5
 loop-holds : tie.Need-loop-holds Inv-loop μ-loop
 loop-holds c = (goes-on (c .before .before .before .pre .0), refl, refl, refl)
 
--- src/walk.rt:422:9
+-- src/search.rt:114:9
 step-requires : tie.Need-step-requires Inv-loop μ-loop
 step-requires c κs = (still-searching _ _ _ _ _ _ (c .before .before .before .before .loop .inv .0) (c .before .before .if1 .taken), c .before .before .before .before .before .before .before .before .pre .1)
 
--- src/walk.rt:421:5
+-- src/search.rt:113:5
 loop-less : tie.Need-loop-less Inv-loop μ-loop
 loop-less c = c .before .before .before .before .step .ensures .falls
 
--- src/walk.rt:421:5
+-- src/search.rt:113:5
 loop-again : tie.Need-loop-again Inv-loop μ-loop
 loop-again c = (c .before .before .before .before .step .ensures .next, c .before .before .before .before .step .kept .1 .1 .1 .0 ∙ c .before .before .before .before .before .before .before .before .before .loop .inv .1, c .before .before .before .before .step .kept .1 .1 .1 .1 .0 ∙ c .before .before .before .before .before .before .before .before .before .loop .inv .2, c .before .before .before .before .step .ensures .later ∙ c .before .before .before .before .before .before .before .before .before .loop .inv .3)
 
--- src/walk.rt:416:1
+-- src/search.rt:101:1
 same-length : tie.Need-same-length Inv-loop μ-loop
 same-length c = c .before .before .loop .inv .1
 
--- src/walk.rt:416:1
+-- src/search.rt:101:1
 same-length-2 : tie.Need-same-length-2 Inv-loop μ-loop
 same-length-2 c = c .before .before .loop .inv .2
 
--- src/walk.rt:416:1
+-- src/search.rt:101:1
 returns : tie.Need-returns Inv-loop μ-loop
 returns c = record { stopped = stopped-ending _ _ _ _ _ _ (c .before .before .loop .inv .0) (c .if1 .left); later = c .before .before .loop .inv .3 }
 

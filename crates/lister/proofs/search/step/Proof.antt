@@ -1,73 +1,73 @@
--- `lister::walk::step` meets its contract: each way out is a law of specs/Search. Assumes nothing.
+-- `lister::search::step` meets its contract: each way out is a law of specs/Search. Assumes nothing.
 use mathlib.Core.Path.{_≡_, refl, sym, ap, _∙_}
 use native.Mathlib.Omega.{arith}
 use Rattle.lister.specs.declared.walk.Run.{Run}
 use Rattle.lister.specs.Pieces.{positive}
 use Rattle.lister.specs.Search.{step-done, step-waiting, step-back, step-short, step-ready, step-visited, step-noted}
 use borrow.Author.Needs.{needs}
-use Rattle.lister.proofs.walk.step.Statement.{statement}
-use Rattle.lister.proofs.walk.step.Tie as tie
-use Rattle.lister.proofs.walk.step.Reads as reads
-use Rattle.lister.proofs.walk.step.Lts as lts
+use Rattle.lister.proofs.search.step.Statement.{statement}
+use Rattle.lister.proofs.search.step.Tie as tie
+use Rattle.lister.proofs.search.step.Reads as reads
+use Rattle.lister.proofs.search.step.Lts as lts
 use Rattle.lister.proofs.walk.advance.Reads as advance-reads
-use Rattle.lister.proofs.walk.counted.Reads as counted-reads
-use Rattle.lister.proofs.walk.ended.Reads as ended-reads
-use Rattle.lister.proofs.walk.note.Reads as note-reads
+use Rattle.lister.proofs.search.counted.Reads as counted-reads
+use Rattle.lister.proofs.search.ended.Reads as ended-reads
+use Rattle.lister.proofs.search.note.Reads as note-reads
 use Rattle.lister.proofs.walk.visit.Reads as visit-reads
 
--- src/walk.rt:400:13
+-- src/search.rt:85:13
 ended-requires : tie.Need-ended-requires
 ended-requires c κs = search needs
 
--- src/walk.rt:400:13
+-- src/search.rt:85:13
 returns : tie.Need-returns
 returns c = step-done _ _ _ _ _ _ (c .before .before .before .before .before .before .before .before .pre .0) _ (c .before .before .before .if1 .taken) (c .before .if2 .taken) (c .ended .ensures)
 
--- src/walk.rt:402:9
+-- src/search.rt:87:9
 advance-requires : tie.Need-advance-requires
 advance-requires c κs = (step-waiting _ _ _ _ _ _ (c .before .before .before .before .before .before .before .before .pre .0) (c .before .before .before .if1 .taken) (c .before .if2 .left), c .before .before .before .before .before .before .before .before .pre .1)
 
--- src/walk.rt:402:9
+-- src/search.rt:87:9
 same-length : tie.Need-same-length
 same-length c = search needs
 
--- src/walk.rt:402:9
+-- src/search.rt:87:9
 returns-2 : tie.Need-returns-2
 returns-2 c = step-back _ _ _ _ _ _ (c .before .before .before .before .before .before .before .before .before .before .before .pre .0) _ _ (c .before .before .before .before .before .before .if1 .taken) (c .before .before .advance .ensures)
 
--- src/walk.rt:405:9
+-- src/search.rt:90:9
 ended-requires-2 : tie.Need-ended-requires-2
 ended-requires-2 c κs = search needs
 
--- src/walk.rt:405:9
+-- src/search.rt:90:9
 returns-3 : tie.Need-returns-3
 returns-3 c = step-short _ _ _ _ _ _ (c .before .before .before .before .before .before .before .before .pre .0) _ (c .before .before .before .if1 .left) (c .before .if3 .taken) (c .ended2 .ensures)
 
--- src/walk.rt:408:9
+-- src/search.rt:93:9
 counted-requires : tie.Need-counted-requires
 counted-requires c κs = search needs
 
--- src/walk.rt:410:9
+-- src/search.rt:95:9
 note-requires : tie.Need-note-requires
 note-requires c κs = let h = c .before .before .before .before .before .before .before .before .before .before .pre .0 in (omega (arith, h .count, ap (λ (r : Run). r .count) (c .before .before .counted .ensures)), h .entries)
 
--- src/walk.rt:410:9
+-- src/search.rt:95:9
 same-length-2 : tie.Need-same-length-2
 same-length-2 c = search needs
 
--- src/walk.rt:410:9
+-- src/search.rt:95:9
 returns-4 : tie.Need-returns-4
 returns-4 c = step-noted _ _ _ _ _ _ (c .before .before .before .before .before .before .before .before .before .before .before .before .before .pre .0) _ _ _ (c .before .before .before .before .before .before .before .before .if1 .left) (c .before .before .before .before .before .before .if3 .left) (c .before .before .before .before .if4 .taken) (c .before .before .before .before .before .counted .ensures) (c .before .before .note .ensures)
 
--- src/walk.rt:412:5
+-- src/search.rt:97:5
 visit-requires : tie.Need-visit-requires
 visit-requires c κs = (step-ready _ _ _ _ _ _ (c .before .before .before .before .before .before .before .before .before .before .pre .0) _ (c .before .before .before .before .before .if1 .left) (c .before .before .counted .ensures), c .before .before .before .before .before .before .before .before .before .before .pre .1, omega (arith, positive _ (c .before .if4 .left), ap (λ (r : Run). r .kind) (c .before .before .counted .ensures)))
 
--- src/walk.rt:394:1
+-- src/search.rt:72:1
 same-length-3 : tie.Need-same-length-3
 same-length-3 c = search needs
 
--- src/walk.rt:394:1
+-- src/search.rt:72:1
 returns-5 : tie.Need-returns-5
 returns-5 c = step-visited _ _ _ _ _ _ (c .before .before .before .before .before .before .before .before .before .before .before .before .before .pre .0) _ _ _ (c .before .before .before .before .before .before .before .before .if1 .left) (c .before .before .before .before .before .before .if3 .left) (positive _ (c .before .before .before .before .if4 .left)) (c .before .before .before .before .before .counted .ensures) (c .before .before .visit .ensures)
 
