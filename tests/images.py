@@ -476,7 +476,7 @@ def judge_case(rng):
 
 def judged_set(rng, book):
     """A set to judge: found by searching, any set of abducibles, or one beyond B."""
-    _, _, kept = explore(book, TRIED_NODES, 1024)
+    kept = explore(book, TRIED_NODES, 1024).kept
     inside = rng.getrandbits(64) & ((1 << book.abducibles) - 1)
     if kept and rng.random() < 0.5:
         return rng.choice(kept) | rng.choice((0, 0, inside))
@@ -486,10 +486,11 @@ def judged_set(rng, book):
 
 def means(rng, book):
     """Budget, room and work length, often about the exact node number and count."""
-    _, nodes, kept = explore(book, TRIED_NODES, 1024)
+    tried = explore(book, TRIED_NODES, 1024)
+    nodes, sets = tried.nodes, len(tried.kept)
     budget = rng.choice((nodes, nodes, nodes + 1, max(nodes - 1, 0), TRIED_NODES, TRIED_NODES,
                          rng.randint(0, nodes), rng.choice((0, 1, 2))))
-    room = rng.choice((len(kept), len(kept), len(kept) + 1, max(len(kept) - 1, 0), 16, 16, 16,
+    room = rng.choice((sets, sets, sets + 1, max(sets - 1, 0), 16, 16, 16,
                        rng.choice((0, 1, 2, 256))))
     work = rng.choice((WORK_NUMBERS, WORK_NUMBERS, WORK_NUMBERS + 1, 20000))
     return faulty_means(rng, budget, room, work) if rng.random() < 0.06 else (budget, room, work)
@@ -527,7 +528,7 @@ def verdict_case(rng):
 
 def hypothesis(rng, book):
     """An abducible, often one in a smallest set; sometimes one beyond B."""
-    _, _, kept = explore(book, TRIED_NODES, 1024)
+    kept = explore(book, TRIED_NODES, 1024).kept
     some = rng.choice(kept) if kept else 0
     members = [h for h in range(book.abducibles) if some >> h & 1]
     if rng.random() < 0.06 or book.abducibles == 0:

@@ -6,7 +6,6 @@ programs gringo and clasp (Debian's packages of these names) and a replay progra
     python3 outside.py --replay "path/to/replay" --seed 1 --books 1000
 """
 
-import argparse
 import json
 import random
 import shutil
@@ -14,7 +13,7 @@ import subprocess
 import sys
 
 from answers import pack_list
-from compare import replayed
+from drivers import options, replayed
 from images import choice_book, small_book
 from reader import encode
 
@@ -65,17 +64,13 @@ def listed(line):
 
 
 def main():
-    parser = argparse.ArgumentParser(description="compare listings with gringo and clasp")
-    parser.add_argument("--replay", required=True)
-    parser.add_argument("--seed", type=int, default=1)
-    parser.add_argument("--books", type=int, default=1000)
-    options = parser.parse_args()
+    chosen = options("compare listings with gringo and clasp", "books", 1000).parse_args()
     missing = [name for name in ("gringo", "clasp") if not shutil.which(name)]
     if missing:
         sys.exit("this needs " + " and ".join(missing))
-    rng = random.Random(options.seed)
-    books = [rng.choice((small_book, choice_book))(rng) for _ in range(options.books)]
-    lines = replayed(options.replay, [pack_list(encode(book), 1_000_000, 256, 16384) for book in books])
+    rng = random.Random(chosen.seed)
+    books = [rng.choice((small_book, choice_book))(rng) for _ in range(chosen.books)]
+    lines = replayed(chosen.replay, [pack_list(encode(book), 1_000_000, 256, 16384) for book in books])
     finished = [(book, listed(line)) for book, line in zip(books, lines) if listed(line) is not None]
     differing = [book for book, sets in finished if sets != smallest(book)]
     for book in differing[:3]:

@@ -29,6 +29,16 @@ class Result:
     work: str
 
 
+@dataclass
+class Search:
+    """How a search went: its refusal or 0, nodes visited, the longest path of them, kept sets."""
+
+    refusal: int
+    nodes: int
+    longest: int
+    kept: list
+
+
 def listing(image, budget, room, work_length):
     """The lister: ('listed', K) or ('refused', number), and what it leaves."""
     book, number = admitted(image, budget, room, work_length)
@@ -82,11 +92,11 @@ def untouched(number, room):
 
 def searched(book, budget, room):
     """A search, finished or not, with the list it leaves."""
-    number, nodes, kept = explore(book, budget, room)
-    if number:
-        return Result(("refused", number), nodes, [0] * room, "clean")
-    entries = in_order(kept) + [0] * (room - len(kept))
-    return Result(("listed", len(kept)), nodes, entries, "clean")
+    search = explore(book, budget, room)
+    if search.refusal:
+        return Result(("refused", search.refusal), search.nodes, [0] * room, "clean")
+    entries = in_order(search.kept) + [0] * (room - len(search.kept))
+    return Result(("listed", len(search.kept)), search.nodes, entries, "clean")
 
 
 def in_order(sets):
@@ -117,7 +127,7 @@ def in_front(tasks, agenda):
 
 
 def explore(book, budget, room):
-    """Visit the search tree: (refusal or 0, nodes visited, kept sets)."""
+    """Visit the search tree."""
     clauses = [[c for c in book.clauses if c.head == p] for p in range(book.atoms)]
     bodies = [[c.body for c in of_p] for of_p in clauses]
     breaks = [[break_task(c) for c in of_p] for of_p in clauses]
@@ -126,22 +136,23 @@ def explore(book, budget, room):
     root = in_front(book.goal + tuple(map(constraint_task, book.constraints)), None)
 
     kept = []
-    nodes = 0
-    due = [(root, 0, 0)]  # the next node due is the last
+    nodes = longest = 0
+    due = [(root, 0, 0, 1)]  # the next node due is the last; with each the nodes from the root to it
     while due:
         if nodes == budget:
-            return 30, nodes, []
-        agenda, true, false = due.pop()
+            return Search(30, nodes, longest, [])
+        agenda, true, false, path = due.pop()
         nodes += 1
+        longest = max(longest, path)
         if agenda is None:
             kept = keep(kept, true & all_abducibles)
             if len(kept) > room:
-                return 31, nodes, []
+                return Search(31, nodes, longest, [])
             continue
         task, rest = agenda
         if type(task) is tuple:
             for wants in reversed(task):
-                due.append((in_front(wants, rest), true, false))
+                due.append((in_front(wants, rest), true, false, path + 1))
             continue
         p = task >> 1
         atom = 1 << p
@@ -149,22 +160,22 @@ def explore(book, budget, room):
             if false & atom:
                 continue
             if true & atom:
-                due.append((rest, true, false))
+                due.append((rest, true, false, path + 1))
             elif p < abducible:
-                due.append((rest, true | atom, false))
+                due.append((rest, true | atom, false, path + 1))
             else:
                 for body in reversed(bodies[p]):
-                    due.append((in_front(body, rest), true | atom, false))
+                    due.append((in_front(body, rest), true | atom, false, path + 1))
         else:  # want p false
             if true & atom:
                 continue
             if false & atom:
-                due.append((rest, true, false))
+                due.append((rest, true, false, path + 1))
             elif p < abducible:
-                due.append((rest, true, false | atom))
+                due.append((rest, true, false | atom, path + 1))
             else:
-                due.append((in_front(breaks[p], rest), true, false | atom))
-    return 0, nodes, kept
+                due.append((in_front(breaks[p], rest), true, false | atom, path + 1))
+    return Search(0, nodes, longest, kept)
 
 
 def keep(kept, s):

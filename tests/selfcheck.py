@@ -83,9 +83,10 @@ def check_against_trying(count):
     rng = random.Random(11)
     for number in range(count):
         book = (small_book, choice_book)[number % 2](rng)
-        refusal, nodes, _ = explore(book, 60_000, 1024)
-        if refusal:
+        search = explore(book, 60_000, 1024)
+        if search.refusal:
             continue
+        nodes = search.nodes
         packed = encode(book)
         smallest = smallest_by_trying(book)
         answer, reported, sets = listed(packed, nodes, 1024)
