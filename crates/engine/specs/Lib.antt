@@ -2,4 +2,5 @@
 pub mod Judge
 pub mod List
 pub mod Verdict
+pub mod VerdictLaws
 pub mod Join

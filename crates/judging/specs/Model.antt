@@ -3,12 +3,12 @@
 use Prim.Native.Nat.{ℕ, zero, suc, _<_}
 use native.Mathlib.Omega.{arith}
 use mathlib.Core.Path.{_≡_, sym, ap, _∙_}
-use mathlib.Core.Bool.{Bool, not}
-use borrow.Author.Tests.{eqb-true, eq-eqb}
+use mathlib.Core.Bool.{Bool}
+use borrow.Author.Tests.{eqb-true}
 use lib.Dec.{eqb}
 use Rattle.base.specs.Bools.{choose}
 use Rattle.base.specs.Lists.{_∈_}
-use Rattle.base.specs.Parts.{filter-has, filter-from}
+use Rattle.base.specs.Parts.{filter-from}
 use Rattle.base.specs.Tests.{all-same, any-same}
 use Rattle.base.specs.Members.{has}
 use Rattle.book.specs.Book.{Lit, Clause, Book}
@@ -26,13 +26,9 @@ for-clause b p {c} m =
     let o = filter-from (λ (k : Clause). eqb (k .head) p) (b .clauses) m in
     (o .0, eqb-true (c .head) p (o .1))
 
-pub clause-for : (b : Book) (p : ℕ) {c : Clause} → c ∈ b .clauses → c .head ≡ p → c ∈ clausesFor b p
-unfolding clausesFor
-clause-for b p {c} m e = filter-has (λ (k : Clause). eqb (k .head) p) (b .clauses) m (eq-eqb (c .head) p e)
-
 -- literals whose atoms have the same values are true alike
 pub same-true : (v w : ℕ → Bool) (l : Lit) → v (l .atom) ≡ w (l .atom) → true-in v l ≡ true-in w l
-same-true v w l e = ap (λ (t : Bool). choose (l .sign) t (not t)) e
+same-true v w l e = ap (λ (t : Bool). true-in (λ (p : ℕ). t) l) e
 
 -- v and w agree on the bodies of p's clauses
 abbrev Agree : Book → (ℕ → Bool) → (ℕ → Bool) → ℕ → Type 0

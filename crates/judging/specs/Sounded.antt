@@ -13,7 +13,6 @@ use Rattle.book.specs.Spell.{two}
 use Rattle.judging.specs.Meaning.{clausesFor, valued}
 use Rattle.judging.specs.Failing.{firstFailing}
 use Rattle.judging.specs.Judged.{judgedBook, judged}
-use Rattle.judging.specs.declared.Judgement.{Judgement}
 use Rattle.judging.specs.declared.Judgement.the-variants.{Explains, FalseGoal, BrokenConstraint, Refused}
 
 -- version, length, then the fields: A, B; the goal; three clauses; one constraint

@@ -1,9 +1,9 @@
 -- A step of the machine where no node is in hand: the newest frame gives its next node, or goes. What is due stays the same.
 -- Assumes nothing.
-use Prim.Native.Nat.{ℕ, zero, suc, _+_, _-_, _*_, _/_, _%_, _^_, _≤_, _<_}
+use Prim.Native.Nat.{ℕ, suc, _+_, _-_, _*_, _/_, _%_, _^_, _≤_, _<_}
 use native.Mathlib.Omega.{arith}
-use mathlib.Core.Path.{_≡_, refl, sym, ap, ap₂, subst, subst₂, _∙_}
-use mathlib.Core.Bool.{Bool, true, false}
+use mathlib.Core.Path.{_≡_, refl, sym, ap, subst, subst₂, _∙_}
+use mathlib.Core.Bool.{true, false}
 use mathlib.Core.Logic.{⊎-elim}
 use mathlib.Core.List.{List, [], _∷_, _++_, map}
 use lib.Dec.{eqb, ltb}
@@ -11,19 +11,17 @@ use lib.ListN.{length, getD, set, length-set}
 use lib.Seq.{getD-set-same, getD-set-other}
 use borrow.Author.Tests.{eq-eqb, ne-eqb, ltb-true, ltb-false}
 use Rattle.base.specs.Bools.{choose, choose-true, choose-false, decide}
-use Rattle.base.specs.Lists.{Every, every-none, every-first, every-rest}
-use Rattle.book.specs.Book.{Lit, Clause, Constraint, Book}
+use Rattle.base.specs.Lists.{Every, every-first, every-rest}
+use Rattle.book.specs.Book.{Lit, Clause, Book}
 use Rattle.book.specs.Walk.{fieldAt}
 use Rattle.book.specs.Decode.{litOf}
 use Rattle.book.specs.Spell.{ofLits, Stands}
-use Rattle.book.specs.Written.{Within}
-use Rattle.book.specs.Faults.{limits}
-use Rattle.book.specs.Shown.{litsAt, lits-at, clausePlace, noClause, Shown, shown}
+use Rattle.book.specs.Shown.{litsAt, lits-at, clausePlace, noClause, shown}
 use Rattle.book.specs.Accepted.{within}
 use Rattle.searching.specs.Rules.{opposite, Task, want, Node, on, assumed}
 use Rattle.lister.specs.declared.frames.Cell.{Cell}
 use Rattle.lister.specs.declared.walk.Run.{Run}
-use Rattle.lister.specs.Machine.{word, cellAt, Same, pos, neg, Chain, none, one, Ground, Area, Tail, newest, under, Own, lits, flip, Agenda, done, more, Ways, over, single, several, Fine, byClauses, byWays, Held, bottom, wanting, picking, Hand, idle, ready, Holds}
+use Rattle.lister.specs.Machine.{word, cellAt, pos, neg, Chain, none, one, Ground, Area, Tail, newest, Own, lits, flip, Agenda, more, Ways, over, single, several, Fine, byClauses, byWays, Held, bottom, wanting, picking, Hand, idle, ready, Holds}
 use Rattle.lister.specs.Memory.{same-cell, same-ways, held-same, held-length, raise}
 use Rattle.lister.specs.Sheet.{parity, area-undo, area-same, assumed-defined, assumed-negated, assumed-joined}
 use Rattle.lister.specs.Moves.{readied, rested, bitOf, Body, body-of}

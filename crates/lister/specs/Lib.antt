@@ -12,4 +12,5 @@ pub mod Search
 pub mod Tables
 pub mod Start
 pub mod Promise
+pub mod PromiseLaws
 pub mod Whole

@@ -1,15 +1,13 @@
 -- The lister's machine: what its cells, frames and marks in the work area say, as tasks, nodes due and a sheet.
 -- Assumes nothing.
-use Prim.Native.Nat.{ℕ, zero, suc, _+_, _-_, _*_, _/_, _%_, _≤_, _<_}
+use Prim.Native.Nat.{ℕ, suc, _+_, _*_, _/_, _%_, _≤_, _<_}
 use mathlib.Core.Path.{_≡_}
 use mathlib.Core.Bool.{Bool, true, false}
 use mathlib.Core.List.{List, [], _∷_, _++_, map}
-use lib.Dec.{ltb}
 use lib.ListN.{length, getD, drop}
 use lib.Seq.{sets}
-use Rattle.base.specs.Bools.{choose}
 use Rattle.base.specs.Lists.{Every}
-use Rattle.book.specs.Book.{Lit, Clause, Constraint, Book}
+use Rattle.book.specs.Book.{Lit, Clause, Book}
 use Rattle.book.specs.Walk.{fieldAt}
 use Rattle.book.specs.Decode.{litOf, decode, accepted}
 use Rattle.book.specs.Shown.{litsAt, clausePlace, constraintPlace, noClause}

@@ -1,17 +1,15 @@
 -- The laws of the work area: what stays where a frame or a number is written, and where a link leads.
 -- Assumes nothing.
-use Prim.Native.Nat.{ℕ, zero, suc, _+_, _-_, _*_, _/_, _%_, _≤_, _<_}
+use Prim.Native.Nat.{ℕ, suc, _+_, _-_, _*_, _≤_, _<_}
 use native.Mathlib.Omega.{arith}
 use mathlib.Core.Path.{_≡_, refl, sym, ap, subst, _∙_}
-use mathlib.Core.List.{List, [], _∷_, _++_, map}
+use mathlib.Core.List.{List, [], _∷_, _++_}
 use lib.ListN.{length, getD, set, drop, take, List·getD-append, length-append}
-use lib.Seq.{drop-set-lt, sets, sets-eq, length-sets, getD-append-add, getD-set-same, getD-set-other, length-take-le}
-use Rattle.base.specs.Lists.{Every}
-use Rattle.book.specs.Book.{Lit, Clause, Book}
-use Rattle.book.specs.Decode.{litOf}
-use Rattle.searching.specs.Rules.{Task, Node, on}
+use lib.Seq.{drop-set-lt, sets, sets-eq, length-sets, getD-append-add, getD-set-other, length-take-le}
+use Rattle.book.specs.Book.{Lit, Book}
+use Rattle.searching.specs.Rules.{Task, Node}
 use Rattle.lister.specs.declared.frames.Cell.{Cell}
-use Rattle.lister.specs.Machine.{word, cellAt, framed, Same, Chain, Tail, newest, under, Own, Agenda, done, more, Ways, Held, bottom, wanting, picking}
+use Rattle.lister.specs.Machine.{word, cellAt, framed, Same, Chain, Tail, newest, under, Agenda, done, more, Ways, Held, bottom, wanting, picking}
 
 pub sets-below : (vs w : List ℕ) (i j : ℕ) → j < i → getD (sets w i vs) j 0 ≡ getD w j 0
 sets-below [] w i j h = refl

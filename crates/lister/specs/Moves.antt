@@ -4,33 +4,33 @@ use Prim.Native.Nat.{ℕ, zero, suc, _+_, _-_, _*_, _/_, _%_, _^_, _≤_, _<_}
 use native.Mathlib.Omega.{arith}
 use native.Mathlib.Nat.{le-refl}
 use mathlib.Core.Path.{_≡_, refl, sym, ap, ap₂, subst, subst₂, _∙_}
-use mathlib.Core.Bool.{Bool, true, false}
+use mathlib.Core.Bool.{true, false}
 use mathlib.Core.Logic.{⊎-elim}
 use mathlib.Core.List.{List, [], _∷_, _++_, map, append-nil}
 use lib.Dec.{eqb, ltb}
 use lib.ListN.{length, getD, set, length-set, length-append}
-use lib.Seq.{getD-set-same, getD-set-other}
+use lib.Seq.{getD-set-other}
 use borrow.Author.Tests.{eq-eqb, ne-eqb, eqb-true, eqb-false, ltb-true, ltb-false}
 use Rattle.base.specs.Bools.{choose, choose-true, choose-false, decide}
-use Rattle.base.specs.Lists.{_∈_, here, there, flat, Every, every-none, every-first, every-rest}
+use Rattle.base.specs.Lists.{_∈_, here, there, flat, Every, every-none, every-first}
 use Rattle.book.specs.Book.{Lit, Clause, Constraint, Book}
 use Rattle.book.specs.Sound.{Orderly}
 use Rattle.book.specs.Walk.{fieldAt}
-use Rattle.book.specs.Decode.{litOf, decode, accepted}
+use Rattle.book.specs.Decode.{litOf}
 use Rattle.book.specs.Spell.{ofLits, ofClause, ofAlternative, ofConstraint, Stands}
 use Rattle.book.specs.StandsLaws.{stands-at, stands-value, stands-rest, stands-within, stands-left, stands-right}
 use Rattle.book.specs.Reads.{length-lits}
 use Rattle.book.specs.Written.{Within}
 use Rattle.book.specs.Faults.{limits}
-use Rattle.book.specs.Shown.{litsAt, lits-at, clausePlace, constraintPlace, noClause, noConstraint, Shown, shown}
+use Rattle.book.specs.Shown.{clausePlace, constraintPlace, noClause, noConstraint, Shown, shown}
 use Rattle.book.specs.Accepted.{within, orderly}
 use Rattle.judging.specs.Meaning.{clausesFor}
-use Rattle.searching.specs.Rules.{opposite, opposites, Task, want, pick, break, keep, Node, on, gather, assumed, children}
+use Rattle.searching.specs.Rules.{opposite, opposites, Task, want, pick, break, Node, on, assumed, children}
 use Rattle.lister.specs.declared.frames.Cell.{Cell}
 use Rattle.lister.specs.declared.walk.Run.{Run}
-use Rattle.lister.specs.Machine.{word, cellAt, framed, Same, wantedOf, pos, neg, Chain, none, one, Ground, Area, Tail, newest, under, Own, lits, flip, breaks, rules, Agenda, done, more, Ways, over, single, several, Fine, byClauses, byWays, Held, wanting, picking, Hand, idle, ready, Holds}
-use Rattle.lister.specs.Memory.{framed-length, framed-below, framed-word, framed-cell, set-same, same-cell, same-ways, held-same, held-length, raise}
-use Rattle.lister.specs.Sheet.{parity, lit-even, lit-odd, Free, reads-free, free-lit, reads-so, reads-refused, area-join, area-undo, area-same, assumed-defined, assumed-negated, assumed-joined}
+use Rattle.lister.specs.Machine.{word, framed, wantedOf, pos, Chain, none, one, Ground, Area, Tail, newest, breaks, Agenda, more, Ways, over, Fine, byClauses, byWays, Held, wanting, picking, Hand, idle, ready, Holds}
+use Rattle.lister.specs.Memory.{framed-length, framed-below, framed-word, framed-cell, same-ways, held-same, held-length, raise}
+use Rattle.lister.specs.Sheet.{parity, lit-even, lit-odd, Free, reads-free, free-lit, reads-so, reads-refused, area-join, area-same, assumed-defined, assumed-negated, assumed-joined}
 use Rattle.lister.specs.Tasks.{restOf, restOfBreak, restOfRule, First, first-want, Breaking, first-break, Keeping, first-rule, children-refused, children-so, children-takes, children-opens, children-denies, children-picks, fine-children, held-free, held-pick, ways-singles, ways-several}
 
 -- the run with a node in hand, and with none

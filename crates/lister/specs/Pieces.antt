@@ -2,9 +2,8 @@
 -- Assumes nothing.
 use Prim.Native.Nat.{ℕ, zero, suc, _+_, _-_, _*_, _/_, _%_, _≤_, _<_}
 use native.Mathlib.Omega.{arith}
-use mathlib.Core.Path.{_≡_, refl, sym, ap, ap₂, subst, subst₂, _∙_}
-use mathlib.Core.Bool.{Bool, true, false}
-use mathlib.Core.List.{List, [], _∷_, _++_}
+use mathlib.Core.Path.{_≡_, refl, sym, ap, ap₂, subst, _∙_}
+use mathlib.Core.List.{List, _∷_, _++_}
 use lib.Dec.{eqb}
 use lib.ListN.{length, getD, set, drop}
 use lib.Seq.{drop-set-lt}
@@ -12,15 +11,12 @@ use Rattle.base.specs.Bools.{choose}
 use Rattle.book.specs.Book.{Book}
 use Rattle.book.specs.Encode.{longest}
 use Rattle.book.specs.Walk.{fieldAt}
-use Rattle.book.specs.Written.{Within}
-use Rattle.book.specs.Faults.{limits}
-use Rattle.book.specs.Shown.{clausePlace, constraintPlace}
 use Rattle.book.specs.Accepted.{within}
-use Rattle.book.specs.Decode.{decode, accepted, litOf}
-use Rattle.searching.specs.Rules.{Node, children, assumed}
+use Rattle.book.specs.Decode.{litOf}
+use Rattle.searching.specs.Rules.{Node, children}
 use Rattle.lister.specs.declared.frames.Cell.{Cell}
 use Rattle.lister.specs.declared.walk.Run.{Run}
-use Rattle.lister.specs.Machine.{word, cellAt, framed, wantedOf, Ground, Area, Holds}
+use Rattle.lister.specs.Machine.{word, cellAt, framed, wantedOf, Holds}
 use Rattle.lister.specs.Memory.{framed-later, framed-word}
 use Rattle.lister.specs.Tasks.{restOf, restOfBreak, restOfRule}
 use Rattle.lister.specs.Moves
@@ -252,9 +248,6 @@ module _ (s : List ℕ) (ab : ℕ) (w : List ℕ) (r : Run) (pre : Waiting s ab 
 
   pub image-short : length s ≤ 8751
   image-short = longest s (pre .b) (pre .holds .ground .book)
-
-  pub frame-room : 1672 + 8 * k + 8 ≤ length w
-  frame-room = Back.small s ab (pre .b) w r k (pre .all) now
 
   pub frame-low : (k < 899) × (16384 ≤ length w)
   frame-low = (omega (arith, now .low), pre .holds .area .long)

@@ -4,22 +4,20 @@
 use Prim.Native.Nat.{ℕ, zero, suc, _+_, _-_, _*_, _≤_, _<_}
 use native.Mathlib.Omega.{arith}
 use mathlib.Core.Path.{_≡_, refl, sym, ap, ap₂, subst, _∙_}
-use mathlib.Core.Bool.{Bool, true, false}
 use mathlib.Core.List.{List, [], _∷_, _++_}
-use lib.Dec.{ltb}
-use lib.ListN.{length, take, drop, length-take}
+use lib.ListN.{length, take, length-take}
 use borrow.Author.Tests.{lt-ltb, le-ltb}
-use Rattle.base.specs.Bools.{choose, choose-true, choose-false}
+use Rattle.base.specs.Bools.{choose-true, choose-false}
 use Rattle.book.specs.Book.{Lit, Book}
 use Rattle.base.specs.Parts.{length-lay, take-lay}
 use Rattle.sets.specs.Kept.{insert, Laid}
-use Rattle.searching.specs.Rules.{Task, Node, root, children, after, noting, assumed, Outcome, finished, used-up, no-room, run, run-from}
+use Rattle.searching.specs.Rules.{Task, Node, root, children, after, noting, assumed, finished, used-up, no-room, run, run-from}
 use Rattle.lister.specs.declared.walk.Run.{Run}
 use Rattle.lister.specs.Machine.{Hand, idle, ready, Holds}
 use Rattle.lister.specs.Tasks.{first-none}
 use Rattle.lister.specs.Moves.{inHand, Visiting, visiting, some-task}
 use Rattle.lister.specs.Back.{nothing-due}
-use Rattle.lister.specs.Steps.{Ready, Waiting, Visited, Advanced, Searching, Stopped, Ending, all-visited, out-of-budget, out-of-room, State, goes-on, ended, ahead, Stepped, counting, stopped, recounted, Noted, inserted, full}
+use Rattle.lister.specs.Steps.{Ready, Waiting, Visited, Advanced, Searching, Stopped, all-visited, out-of-budget, out-of-room, State, goes-on, ended, Stepped, counting, stopped, recounted, Noted, inserted, full}
 
 -- ---- the rules' search, one node at a time
 

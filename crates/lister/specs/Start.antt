@@ -3,14 +3,14 @@
 use Prim.Native.Nat.{ℕ, zero, suc, _+_, _-_, _*_, _≤_, _<_}
 use native.Mathlib.Omega.{arith}
 use mathlib.Core.Path.{_≡_, refl, sym, ap, ap₂, subst, subst₂, _∙_}
-use mathlib.Core.Bool.{Bool, true, false}
+use mathlib.Core.Bool.{false}
 use mathlib.Core.List.{List, [], _∷_, _++_, map, append-nil}
 use borrow.Author.Tests.{eq-eqb, ne-eqb}
 use lib.Dec.{eqb}
 use lib.ListN.{length, getD, drop, length-append, length-drop, length-replicate, getD-replicate, List·getD-append}
-use lib.Seq.{drop-append-add, drop-drop, drop-append-seam}
-use Rattle.base.specs.Bools.{choose, choose-true, choose-false}
-use Rattle.base.specs.Lists.{Every, every-none}
+use lib.Seq.{drop-append-add, drop-drop}
+use Rattle.base.specs.Bools.{choose}
+use Rattle.base.specs.Lists.{every-none}
 use Rattle.book.specs.Book.{Lit, Clause, Constraint, Book}
 use Rattle.book.specs.Encode.{longest}
 use Rattle.book.specs.Walk.{fieldAt}
@@ -20,17 +20,17 @@ use Rattle.book.specs.StandsLaws.{stands-within}
 use Rattle.book.specs.Reads.{length-lits}
 use Rattle.book.specs.Written.{Within}
 use Rattle.book.specs.Faults.{limits}
-use Rattle.book.specs.Shown.{litsAt, lits-at, skip, clauseCount, clausePlace, constraintCount, constraintPlace, Shown, shown}
+use Rattle.book.specs.Shown.{lits-at, skip, clauseCount, constraintCount, Shown, shown}
 use Rattle.book.specs.Accepted.{within, orderly}
 use Rattle.sets.specs.Kept.{zeros}
 use Rattle.judging.specs.Meaning.{clausesFor}
-use Rattle.searching.specs.Rules.{Task, want, keep, Node, root, on, gather, assumed}
-use Rattle.searching.specs.Bounds.{frames, root-frames, root-named, Named}
+use Rattle.searching.specs.Rules.{Task, want, keep, root, on, gather, assumed}
+use Rattle.searching.specs.Bounds.{root-frames, root-named}
 use Rattle.lister.specs.declared.frames.Cell.{Cell}
 use Rattle.lister.specs.declared.walk.Run.{Run}
-use Rattle.lister.specs.Machine.{word, cellAt, framed, Same, markOf, Chain, none, one, Ground, Area, Tail, newest, under, Own, lits, rules, Agenda, done, more, Ways, over, Fine, Held, bottom, picking, Hand, ready, Holds}
+use Rattle.lister.specs.Machine.{framed, Same, Chain, none, one, Ground, Area, newest, Own, lits, rules, Agenda, done, more, over, Fine, Held, bottom, picking, ready, Holds}
 use Rattle.lister.specs.Memory.{framed-length, framed-below, framed-word, framed-cell, framed-later, same-ways, held-same, raise}
-use Rattle.lister.specs.Moves.{Body, body-of, Rule, rule-of}
+use Rattle.lister.specs.Moves.{body-of, rule-of}
 use Rattle.lister.specs.Tables.{Records, placed, placed-length, placed-in, placed-out, placed-later, Clauses, Chained}
 
 -- ---- the cells of the root

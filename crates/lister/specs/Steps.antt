@@ -2,12 +2,12 @@
 -- Assumes nothing.
 use Prim.Native.Nat.{ℕ, _+_, _-_, _*_, _≤_, _<_}
 use mathlib.Core.Path.{_≡_}
-use mathlib.Core.List.{List, [], _∷_, _++_}
+use mathlib.Core.List.{List, _∷_, _++_}
 use lib.ListN.{length, take, drop}
 use Rattle.book.specs.Book.{Book}
 use Rattle.book.specs.Decode.{decode, accepted}
 use Rattle.sets.specs.Kept.{insert}
-use Rattle.searching.specs.Rules.{Node, root, children, Outcome, finished, used-up, no-room, run, run-from}
+use Rattle.searching.specs.Rules.{Node, root, children, finished, used-up, no-room, run, run-from}
 use Rattle.lister.specs.declared.walk.Run.{Run}
 use Rattle.lister.specs.Machine.{word, Holds}
 

@@ -1,11 +1,11 @@
 -- The tables of the work area: places of records, and the chains of clauses by head, as the preparing loops fill them.
 -- Assumes nothing.
-use Prim.Native.Nat.{ℕ, zero, suc, _+_, _-_, _*_, _≤_, _<_}
+use Prim.Native.Nat.{ℕ, zero, suc, _+_, _-_, _≤_, _<_}
 use native.Mathlib.Omega.{arith}
 use mathlib.Core.Path.{_≡_, refl, sym, ap, ap₂, subst, _∙_}
 use mathlib.Core.Bool.{Bool, true, false}
 use mathlib.Core.List.{List, [], _∷_, _++_, append-assoc}
-use borrow.Author.Tests.{eqb-true, eqb-false, eq-eqb, ne-eqb}
+use borrow.Author.Tests.{eqb-true, eqb-false}
 use lib.Dec.{eqb}
 use lib.ListN.{length, getD, set, drop, length-set, length-replicate, replicate-append-replicate, drop-of-length-le}
 use lib.Seq.{drop-cons, set-at, getD-set-same, getD-set-other, drop-set-lt}
@@ -15,9 +15,8 @@ use Rattle.book.specs.Book.{Clause, Book}
 use Rattle.book.specs.Encode.{longest}
 use Rattle.book.specs.Walk.{fieldAt}
 use Rattle.book.specs.Decode.{decode, accepted}
-use Rattle.book.specs.Spell.{ofLits, ofClause, Stands}
-use Rattle.book.specs.StandsLaws.{stands-value, stands-rest, stands-there}
-use Rattle.book.specs.Shown.{skip, clauseCount, clausePlace, noClause, Shown, shown}
+use Rattle.book.specs.StandsLaws.{stands-value, stands-rest}
+use Rattle.book.specs.Shown.{skip, clauseCount, clausePlace, noClause, shown}
 use Rattle.book.specs.Written.{Within}
 use Rattle.book.specs.Faults.{limits}
 use Rattle.book.specs.Accepted.{within}

@@ -1,32 +1,32 @@
 -- The first task of a cell's agenda and the cell of the rest; the children of a node, by its first task; and the ways of a break and of a
 -- constraint as they stand in the image.
 -- Assumes nothing.
-use Prim.Native.Nat.{ℕ, zero, suc, _+_, _-_, _*_, _/_, _%_, _≤_, _<_}
+use Prim.Native.Nat.{ℕ, zero, suc, _+_, _-_, _*_, _≤_, _<_}
 use native.Mathlib.Omega.{arith}
-use mathlib.Core.Path.{_≡_, refl, sym, ap, ap₂, subst, _∙_}
-use mathlib.Core.Bool.{Bool, true, false, not}
+use mathlib.Core.Path.{_≡_, refl, sym, ap, subst, _∙_}
+use mathlib.Core.Bool.{Bool, true, false}
 use mathlib.Core.List.{List, [], _∷_, _++_, map}
 use borrow.Author.Tests.{ltb-true, ltb-false, lt-ltb, le-ltb, ne-eqb}
 use lib.Dec.{ltb, eqb}
 use lib.ListN.{length, getD, drop, length-append, drop-of-length-le}
 use lib.Seq.{drop-cons}
-use Rattle.base.specs.Bools.{choose, choose-true, choose-false, clash}
-use Rattle.base.specs.Lists.{_∈_, here, there, Every, every-first, every-rest, flat}
+use Rattle.base.specs.Bools.{choose}
+use Rattle.base.specs.Lists.{here, there, Every, every-first, every-rest, flat}
 use Rattle.book.specs.Book.{Lit, Clause, Constraint, Book}
 use Rattle.book.specs.Sound.{Orderly}
 use Rattle.book.specs.Walk.{fieldAt}
 use Rattle.book.specs.Decode.{litOf}
-use Rattle.book.specs.Spell.{ofLit, ofLits, ofAlternative, Stands, none, more}
+use Rattle.book.specs.Spell.{ofLits, ofAlternative, Stands, none, more}
 use Rattle.book.specs.StandsLaws.{stands-at, stands-left, stands-right, stands-value, stands-there, stands-rest, stands-within}
 use Rattle.book.specs.Reads.{length-lits, lit-in}
 use Rattle.book.specs.Shown.{litsAt, lits-at, noClause, noConstraint}
-use Rattle.judging.specs.Meaning.{abducible, clausesFor}
-use Rattle.searching.specs.Rules.{opposite, opposites, Task, want, pick, break, keep, Node, on, opens, unfolds, results, after, children}
-use Rattle.searching.specs.Steps.{Child, child-of}
-use Rattle.searching.specs.Bounds.{held, frames, frames-fall, child-named, Named}
+use Rattle.judging.specs.Meaning.{clausesFor}
+use Rattle.searching.specs.Rules.{opposite, opposites, Task, want, pick, break, keep, Node, on, results, after, children}
+use Rattle.searching.specs.Steps.{child-of}
+use Rattle.searching.specs.Bounds.{held, frames-fall, child-named}
 use Rattle.lister.specs.declared.frames.Cell.{Cell}
-use Rattle.lister.specs.Machine.{word, cellAt, wantedOf, pos, neg, Chain, none, one, Tail, newest, under, Own, lits, flip, breaks, rules, Agenda, done, more, Ways, over, single, several, Fine, byClauses, byWays, Held}
-use Rattle.lister.specs.Memory.{Linked, follow}
+use Rattle.lister.specs.Machine.{cellAt, wantedOf, pos, neg, Chain, none, one, Tail, Own, lits, flip, breaks, rules, Agenda, done, more, Ways, over, single, several, Fine, byClauses, byWays, Held}
+use Rattle.lister.specs.Memory.{follow}
 use Rattle.lister.specs.Sheet.{wanted-same, wanted-other}
 
 -- the cell of the agenda behind a want, a break, a constraint

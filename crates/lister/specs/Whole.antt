@@ -1,26 +1,24 @@
 -- The whole listing, as the code puts it together.
 -- Assumes nothing.
-use Prim.Native.Nat.{ℕ, _+_, _-_, _≤_, _<_}
+use Prim.Native.Nat.{ℕ, _+_, _-_, _≤_}
 use native.Mathlib.Omega.{arith}
 use native.Mathlib.Nat.{sub-zero}
-use mathlib.Core.Path.{_≡_, refl, sym, ap, ap₂, subst, _∙_}
+use mathlib.Core.Path.{_≡_, refl, sym, ap, ap₂, _∙_}
 use mathlib.Core.List.{List, [], _∷_, _++_}
 use lib.ListN.{length, take, drop, length-append, length-drop}
 use lib.Seq.{take-at, length-take-le}
-use Rattle.book.specs.Book.{Book}
 use Rattle.book.specs.Walk.{fieldAt}
 use Rattle.book.specs.Decode.{Decoded, accepted, refused, decode}
 use Rattle.book.specs.Reading.{readingOf, Reads}
 use Rattle.book.specs.declared.Reading.{Reading}
 use Rattle.book.specs.declared.Reading.the-variants.{Accepted, Refused as Turned}
 use Rattle.sets.specs.Kept.{zeros, sort, sort-length}
-use Rattle.searching.specs.Rules.{root, run, run-from, finished, used-up, no-room}
-use Rattle.lister.specs.declared.Listing.{Listing}
+use Rattle.searching.specs.Rules.{root, run, run-from, finished}
 use Rattle.lister.specs.declared.Listing.the-variants.{Listed, Refused}
 use Rattle.lister.specs.declared.walk.Run.{Run}
 use Rattle.lister.specs.Steps.{Searching, Ending, all-visited, out-of-budget, out-of-room, Stopped}
 use Rattle.lister.specs.Start.{IsBook, Started}
-use Rattle.lister.specs.Promise.{Searched, searched-all, searched-short, searched-full}
+use Rattle.lister.specs.PromiseLaws.{Searched, searched-all, searched-short, searched-full}
 
 -- ---- what the reader's answer says
 

@@ -8,11 +8,11 @@ pub mod walk;
 
 use book::Reading;
 use book::fields::field_at;
-ghost use mathlib.Core.Path.{_≡_};
 ghost use Prim.Native.Nat.{_≤_};
 ghost use lib.ListN.{length};
 ghost use Rattle.lister.specs.Start.{IsBook};
-ghost use Rattle.lister.specs.Promise.{Lists, Searched};
+ghost use Rattle.lister.specs.Promise.{Lists};
+ghost use Rattle.lister.specs.PromiseLaws.{Searched};
 
 // The number of sets, or a refusal's number; then the nodes visited.
 pub enum Listing {

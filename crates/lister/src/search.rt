@@ -3,7 +3,7 @@ use super::walk::Run;
 use super::walk::advance;
 use super::walk::visit;
 ghost use mathlib.Core.Path.{_≡_};
-ghost use Prim.Native.Nat.{ℕ, _≤_, _<_};
+ghost use Prim.Native.Nat.{_≤_, _<_};
 ghost use lib.ListN.{length};
 ghost use Rattle.book.specs.Walk.{fieldAt};
 ghost use Rattle.lister.specs.Steps.{Searching, Stepped, Noted, Walked, counting, stopped};

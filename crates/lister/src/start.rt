@@ -5,7 +5,7 @@ use super::frames::Cell;
 use super::walk::Run;
 use book::fields::field_at;
 ghost use mathlib.Core.Path.{_≡_};
-ghost use Prim.Native.Nat.{ℕ, _+_, _*_, _≤_};
+ghost use Prim.Native.Nat.{_+_, _*_, _≤_};
 ghost use lib.ListN.{length};
 ghost use Rattle.lister.specs.Start.{rulesCell, goalCell, rootRun, grounded, IsBook, Started};
 

@@ -2,12 +2,12 @@
 -- Assumes nothing.
 use Prim.Native.Nat.{ℕ, zero, suc, _/_, _%_}
 use mathlib.Core.Path.{_≡_, refl}
-use mathlib.Core.Bool.{Bool, true, false}
+use mathlib.Core.Bool.{true}
 use mathlib.Core.List.{List, [], _∷_, map}
 use lib.Count.{ones}
 use Rattle.base.specs.Least.{insert}
 use Rattle.base.specs.Order.{place, sort}
-use Rattle.book.specs.Book.{Lit, Clause, Constraint, Book}
+use Rattle.book.specs.Book.{Lit, Clause, Book}
 use Rattle.book.specs.Walk.{fieldAt, field, running}
 use Rattle.book.specs.Faults.{wrongAtoms, wrongAbducibles, wrongCount, wrongLit, wrongHead, wrongSize, wrongClause, wrongConditions, wrongAlternative}
 use Rattle.book.specs.Loops.{pending, below, quiet, loopFree}

@@ -117,11 +117,7 @@ module _ (b : Book) where
       go n ih (inl q) = subst (λ (m : Node). Ends b (x .sheet) m) q (success-ends x e)
       go n ih (inr w) = ends-up (child-of b n (w .1)) (ih (w .0) (w .1) (w .2))
 
-  -- Every success below a start has done all tasks of the start,
-  pub success-done : (n x : Node) → x ∈ visits b n → Success x → Every (Done (On (x .sheet))) (n .agenda)
-  success-done n x m e = ends x e n m .done
-
-  -- and gives an accepted sheet.
+  -- Every success below a start gives an accepted sheet.
   pub success-accepted : (n x : Node) → Start b n → x ∈ visits b n → Success x → Accepted b (x .sheet)
   success-accepted n x start m e = record {
     apart = λ p i j. clear (side p true) i j;

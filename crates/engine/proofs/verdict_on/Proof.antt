@@ -1,7 +1,8 @@
 -- `engine::verdict_on` meets its promise: a refusal before any search, one of the listing, or the verdict by its list.
 -- Assumes nothing.
 use mathlib.Core.Path.{sym, subst}
-use Rattle.engine.specs.Verdict.{Verdicts, verdict-early, lists-count, search-may, verdict-refused, verdict-listed}
+use Rattle.engine.specs.Verdict.{Verdicts}
+use Rattle.engine.specs.VerdictLaws.{verdict-early, lists-count, search-may, verdict-refused, verdict-listed}
 use Rattle.engine.specs.declared.Verdict.{Verdict}
 use borrow.Author.Needs.{needs}
 use Rattle.engine.proofs.verdict_on.Statement.{statement}

@@ -1,7 +1,5 @@
 -- `lister::list` meets its promise. Assumes nothing.
-use mathlib.Core.Path.{_≡_, refl, sym, ap, _∙_}
-use native.Mathlib.Omega.{arith}
-use Rattle.lister.specs.Promise.{refused-lists, long-list, short-work, high-budget, searched-lists}
+use Rattle.lister.specs.PromiseLaws.{refused-lists, long-list, short-work, high-budget, searched-lists}
 use Rattle.lister.specs.Whole.{read-book, read-refused}
 use borrow.Author.Needs.{needs}
 use Rattle.lister.proofs.list.Statement.{statement}

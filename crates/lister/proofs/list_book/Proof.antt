@@ -1,5 +1,5 @@
 -- `lister::list_book` meets its contract. Assumes nothing.
-use mathlib.Core.Path.{_≡_, refl, sym, ap, _∙_}
+use mathlib.Core.Path.{_∙_}
 use native.Mathlib.Omega.{arith}
 use Rattle.lister.specs.Start.{counts}
 use Rattle.lister.specs.Whole.{begins, count-fits, ends-listed, ends-short, ends-full}

@@ -4,7 +4,7 @@ use native.Mathlib.Omega.{arith}
 use Rattle.book.specs.Book.{Book}
 use Rattle.book.specs.Decode.{decode, accepted}
 use Rattle.book.specs.Shown.{shown}
-use Rattle.engine.specs.Verdict.{book-of, early-refused, early-long, early-short, early-budget, early-hypothesis, early-search}
+use Rattle.engine.specs.VerdictLaws.{book-of, early-refused, early-long, early-short, early-budget, early-hypothesis, early-search}
 use borrow.Author.Needs.{needs}
 use Rattle.engine.proofs.deciding.before_search.Statement.{statement}
 use Rattle.engine.proofs.deciding.before_search.Tie as tie

@@ -1,6 +1,5 @@
 -- `lister::area::link_clauses` meets its contract. Assumes nothing.
-use Prim.Native.Nat.{ℕ, _+_, _-_}
-use mathlib.Core.Path.{_≡_, refl, sym, ap, _∙_}
+use Prim.Native.Nat.{_-_}
 use native.Mathlib.Omega.{arith}
 use lib.ListN.{length-set}
 use Rattle.lister.specs.Tables.{Linking, linking-start, linking-end, linking-step, head-of}

@@ -1,5 +1,5 @@
 -- `lister::search::step` meets its contract: each way out is a law of specs/Search. Assumes nothing.
-use mathlib.Core.Path.{_≡_, refl, sym, ap, _∙_}
+use mathlib.Core.Path.{ap}
 use native.Mathlib.Omega.{arith}
 use Rattle.lister.specs.declared.walk.Run.{Run}
 use Rattle.lister.specs.Pieces.{positive}

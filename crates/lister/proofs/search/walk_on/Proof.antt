@@ -1,8 +1,5 @@
 -- `lister::search::walk_on` meets its contract. The loop's invariant is `State`: one equation, between the rules' search from the root and from here. Assumes nothing.
-use Prim.Native.Nat.{ℕ}
-use mathlib.Core.Path.{_≡_, refl, sym, _∙_}
-use mathlib.Core.List.{List}
-use native.Mathlib.Omega.{arith}
+use mathlib.Core.Path.{_≡_, refl, _∙_}
 use lib.ListN.{length, drop}
 use Rattle.book.specs.Walk.{fieldAt}
 use Rattle.lister.specs.Steps.{State, goes-on, ahead}

@@ -1,10 +1,10 @@
 -- `lister::start::root` meets its contract. Assumes nothing.
 use Prim.Native.Nat.{ℕ}
-use mathlib.Core.Path.{_≡_, sym, ap, ap₂, _∙_}
+use mathlib.Core.Path.{ap, ap₂, _∙_}
 use mathlib.Core.List.{List}
 use Rattle.lister.specs.declared.frames.Cell.{Cell}
 use Rattle.lister.specs.Machine.{framed}
-use Rattle.lister.specs.Start.{grounded, rulesCell, goalCell, rootRun}
+use Rattle.lister.specs.Start.{grounded, goalCell, rootRun}
 use borrow.Author.Needs.{needs}
 use Rattle.lister.proofs.start.root.Statement.{statement}
 use Rattle.lister.proofs.start.root.Tie as tie

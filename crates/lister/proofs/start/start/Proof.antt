@@ -1,5 +1,5 @@
 -- `lister::start::start` meets its contract. Assumes nothing.
-use mathlib.Core.Path.{_≡_, refl, sym, ap, _∙_}
+use mathlib.Core.Path.{_∙_}
 use native.Mathlib.Omega.{arith}
 use Rattle.lister.specs.Start.{counts, front-there, clauses-few, clauses-there, clauses-placed, rules-there, rules-few, rules-placed, started-here}
 use borrow.Author.Needs.{needs}

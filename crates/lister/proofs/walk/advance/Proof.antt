@@ -1,10 +1,8 @@
 -- `lister::walk::advance` meets its contract. Assumes nothing.
 use Rattle.lister.specs.Pieces.{advanced-at}
 use Prim.Native.Nat.{ℕ, _-_}
-use mathlib.Core.Path.{_≡_, refl, sym, ap, subst, _∙_}
-use native.Mathlib.Omega.{arith}
-use Rattle.lister.specs.Machine.{word}
-use Rattle.lister.specs.Steps.{Waiting, Advanced}
+use mathlib.Core.Path.{sym, subst}
+use Rattle.lister.specs.Steps.{Waiting}
 use Rattle.lister.specs.Pieces.{positive}
 use borrow.Author.Needs.{needs}
 use Rattle.lister.proofs.walk.advance.Statement.{statement}

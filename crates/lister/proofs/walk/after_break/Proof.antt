@@ -1,5 +1,5 @@
 -- `lister::walk::after_break` meets its contract. Assumes nothing.
-use mathlib.Core.Path.{_≡_, sym, _∙_}
+use mathlib.Core.Path.{sym, _∙_}
 use borrow.Author.Tests.{eq-eqb, ne-eqb}
 use Rattle.base.specs.Bools.{choose-true, choose-false}
 use Rattle.lister.specs.Tasks.{restOfBreak}

@@ -1,7 +1,4 @@
 -- `lister::walk::bit` meets its contract. Assumes nothing.
-use Prim.Native.Nat.{ℕ, _/_, _%_, _^_, _<_}
-use mathlib.Core.Path.{_≡_, sym, _∙_}
-use native.Mathlib.Omega.{arith}
 use Rattle.lister.specs.Bits.{bit-even, bit-odd}
 use borrow.Author.Needs.{needs}
 use Rattle.lister.proofs.walk.bit.Statement.{statement}

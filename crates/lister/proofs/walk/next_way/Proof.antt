@@ -1,8 +1,7 @@
 -- `lister::walk::next_way` meets its contract. Assumes nothing.
 use Prim.Native.Nat.{ℕ, _+_, _-_, _*_}
-use mathlib.Core.Path.{_≡_, refl, sym, ap, _∙_}
+use mathlib.Core.Path.{refl, ap}
 use native.Mathlib.Omega.{arith}
-use borrow.Author.Tests.{ltb-true, ltb-false}
 use Rattle.lister.specs.Machine.{word}
 use Rattle.lister.specs.Pieces.{image-short, literal-there, way-there, none-advanced, literal-advanced, way-advanced}
 use borrow.Author.Needs.{needs}

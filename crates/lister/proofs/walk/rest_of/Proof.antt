@@ -1,5 +1,5 @@
 -- `lister::walk::rest_of` meets its contract. Assumes nothing.
-use mathlib.Core.Path.{_≡_, sym, _∙_}
+use mathlib.Core.Path.{sym, _∙_}
 use borrow.Author.Tests.{lt-ltb, le-ltb}
 use Rattle.base.specs.Bools.{choose-true, choose-false}
 use Rattle.lister.specs.Tasks.{restOf}

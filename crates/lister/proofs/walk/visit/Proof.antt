@@ -1,6 +1,6 @@
 -- `lister::walk::visit` meets its contract. Assumes nothing.
 use Prim.Native.Nat.{ℕ}
-use mathlib.Core.Path.{_≡_, refl, sym, ap, subst, _∙_}
+use mathlib.Core.Path.{sym, subst}
 use Rattle.lister.specs.Steps.{Ready}
 use Rattle.lister.specs.Pieces.{visited-at, opened-waiting, opened-advanced}
 use borrow.Author.Needs.{needs}

@@ -1,6 +1,5 @@
 -- `lister::walk::want` meets its contract: each way out is a law of specs/Pieces. Assumes nothing.
-use mathlib.Core.Path.{_≡_, refl, sym, ap, _∙_}
-use Prim.Native.Nat.{ℕ, _/_}
+use mathlib.Core.Path.{refl, ap, _∙_}
 use native.Mathlib.Omega.{arith}
 use Rattle.lister.specs.Machine.{wantedOf}
 use Rattle.lister.specs.Pieces.{room, want-there, want-link, want-atom, takes-fits, so-visited, refused-visited, takes-visited, opens-visited, denies-none-visited, denies-visited}
