@@ -12,6 +12,9 @@ use Rattle.judging.specs.Judged.{Judges}
 use Rattle.lister.specs.declared.Listing.{Listing}
 use Rattle.lister.specs.declared.Listing.the-variants as listing
 use Rattle.lister.specs.Promise.{Lists}
+use Rattle.engine.specs.declared.Verdict.{Verdict}
+use Rattle.engine.specs.declared.Verdict.the-variants as verdict
+use Rattle.engine.specs.Verdict.{Verdicts}
 use Rattle.sets.specs.declared.Joined.{Joined}
 use Rattle.sets.specs.declared.Joined.the-variants as joined
 use Rattle.sets.specs.Join.{Joins}
@@ -49,6 +52,19 @@ pub record ListingCode (s : List ℕ) (budget : ℕ) (list area : List ℕ) (r :
   pub answer : Listing
   pub lists : Lists s budget list area answer list′ area′
   pub code : r ≡ listingCode answer
+
+-- unexplained 0, needed 1, possible 2, ruled out 3, refused 4 with the number times 2^32; then the nodes
+abbrev pub verdictCode : Verdict → ℕ
+verdictCode (verdict.Unexplained n) = n
+verdictCode (verdict.Needed n) = 72057594037927936 + n
+verdictCode (verdict.Possible n) = 144115188075855872 + n
+verdictCode (verdict.RuledOut n) = 216172782113783808 + n
+verdictCode (verdict.Refused m n) = 288230376151711744 + 4294967296 * m + n
+
+pub record VerdictCode (s : List ℕ) (h budget : ℕ) (list area : List ℕ) (r : ℕ) (list′ area′ : List ℕ) : Type 0 where
+  pub answer : Verdict
+  pub verdicts : Verdicts s h budget list area answer list′ area′
+  pub code : r ≡ verdictCode answer
 
 -- the count, or the refusal's number times 2^32
 abbrev pub joinedCode : Joined → ℕ

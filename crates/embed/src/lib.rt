@@ -5,7 +5,8 @@ use book::Reading;
 use engine::Joined;
 use engine::Judgement;
 use engine::Listing;
-ghost use Rattle.embed.specs.Codes.{ReadingCode, JudgementCode, ListingCode, JoinedCode};
+use engine::Verdict;
+ghost use Rattle.embed.specs.Codes.{ReadingCode, JudgementCode, ListingCode, VerdictCode, JoinedCode};
 
 #[no_mangle]
 pub extern "C" fn wizogbare_read(image: &[u8]) -> u32
@@ -41,6 +42,25 @@ pub extern "C" fn wizogbare_list(
     match engine::list(image, budget, sets, work) {
         Listing::Listed(k, n) => 4294967296 * (k as u64) + n as u64,
         Listing::Refused(m, n) => 72057594037927936 + 4294967296 * (m as u64) + n as u64,
+    }
+}
+
+#[no_mangle]
+pub extern "C" fn wizogbare_verdict(
+    image: &[u8],
+    hypothesis: u32,
+    budget: u32,
+    sets: &mut [u64],
+    work: &mut [u32],
+) -> u64
+    ensures { λ r. ⌜ VerdictCode (now (image .entry)) hypothesis budget (now (sets .entry)) (now (work .entry)) r (now (sets .exit)) (now (work .exit)) ⌝ }
+{
+    match engine::verdict_on(image, hypothesis, budget, sets, work) {
+        Verdict::Unexplained(n) => n as u64,
+        Verdict::Needed(n) => 72057594037927936 + n as u64,
+        Verdict::Possible(n) => 144115188075855872 + n as u64,
+        Verdict::RuledOut(n) => 216172782113783808 + n as u64,
+        Verdict::Refused(m, n) => 288230376151711744 + 4294967296 * (m as u64) + n as u64,
     }
 }
 

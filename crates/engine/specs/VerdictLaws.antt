@@ -1,108 +1,71 @@
--- The ways to a verdict: what the tests before any search say, and what a listing leaves to decide.
+-- The ways to a verdict: turned away before any search, or what a listing leaves to decide.
 -- Assumes nothing.
 use Prim.Native.Nat.{ℕ, _-_, _≤_, _<_}
 use mathlib.Core.Path.{_≡_, refl, sym, ap, ap₂, subst, _∙_}
+use mathlib.Core.Bool.{Bool, true, false}
 use mathlib.Core.List.{List, [], _∷_, _++_}
 use native.Mathlib.Omega.{arith}
 use borrow.Author.Tests.{lt-ltb, le-ltb}
 use lib.Dec.{ltb}
 use lib.ListN.{length, length-append, take}
 use lib.Seq.{take-at}
-use Rattle.base.specs.Bools.{choose, choose-true, choose-false}
+use Rattle.base.specs.Bools.{choose}
 use Rattle.base.specs.Lists.{all, any}
 use Rattle.base.specs.Members.{has}
-use Rattle.book.specs.Book.{Book}
-use Rattle.book.specs.Decode.{Decoded, accepted, refused, decode}
+use Rattle.book.specs.Decode.{Decoded, decode}
 use Rattle.sets.specs.Kept.{zeros}
 use Rattle.searching.specs.Rules.{finished, used-up, no-room, listing}
-use Rattle.lister.specs.Promise.{Result, turned, searched, byBook, resultOf, answerOf, setsOf, workOf, Lists}
+use Rattle.lister.specs.Promise.{Result, turned, searched, resultOf, answerOf, setsOf, workOf, Lists}
+use Rattle.lister.specs.PromiseLaws.{Admitted, Early, admitted-result}
+use Rattle.lister.specs.declared.Asked.{Asked}
+use Rattle.lister.specs.declared.Asked.the-variants.{Turned}
 use Rattle.lister.specs.declared.Listing.{Listing}
 use Rattle.lister.specs.declared.Listing.the-variants as listing
 use Rattle.book.specs.Accepted.{within}
-use Rattle.book.specs.Reading.{readingOf}
-use Rattle.book.specs.declared.Reading.the-variants.{Accepted, Refused as Refused₁}
-use Rattle.engine.specs.declared.deciding.Asked.{Asked}
-use Rattle.engine.specs.declared.deciding.Asked.the-variants.{Turned, Search}
 use Rattle.engine.specs.declared.Verdict.{Verdict}
 use Rattle.engine.specs.declared.Verdict.the-variants.{Needed, Possible, RuledOut, Refused}
 use Rattle.engine.specs.Verdict.{named, asked, verdictResult, decided, verdictOf, Verdicts}
 
--- what the tests before any search say: a refusal's number, or that the search may begin
-abbrev pub Early : List ℕ → ℕ → ℕ → ℕ → ℕ → Asked → Type 0
-Early image h budget room space (Turned n) = verdictResult image h budget room space ≡ turned n
-Early image h budget room space Search = (verdictResult image h budget room space ≡ resultOf image budget room space) × (h < 64)
+module _ (image : List ℕ) (h budget : ℕ) (list area : List ℕ) where
+  turned-away : (n : ℕ) → verdictResult image h budget (length list) (length area) ≡ turned n → Verdicts image h budget list area (Refused n 0) list area
+  turned-away n e = record {
+    answer = ap (verdictOf h) (sym e);
+    sets = ap (λ (x : Result). setsOf x list) (sym e);
+    work = ap (λ (x : Result). workOf x area) (sym e);
+  }
 
--- an image that was accepted has a book
-pub book-of : (image : List ℕ) → Accepted ≡ readingOf (decode image) → (b : Book) × (decode image ≡ accepted b)
-book-of image e = go (decode image) e refl
-  where
-    go : (d : Decoded) → Accepted ≡ readingOf d → decode image ≡ d → (b : Book) × (decode image ≡ accepted b)
-    go (accepted b) q r = (b, r)
-    go (refused m) q r = let z : _≡_ {A = ℕ} 0 1 = cc in absurd (omega arith)
+  -- a refusal before any search
+  pub verdict-early : (n : ℕ) (r : Asked) → Early image budget (length list) (length area) r → r ≡ Turned n → Verdicts image h budget list area (Refused n 0) list area
+  unfolding verdictResult
+  verdict-early n r early i = turned-away n (ap (asked (named (decode image) h)) (subst (Early image budget (length list) (length area)) i early))
 
-module _ (image : List ℕ) (h budget room space : ℕ) where
-  pub early-refused : (n : ℕ) → Refused₁ n ≡ readingOf (decode image) → Early image h budget room space (Turned n)
-  unfolding verdictResult resultOf
-  early-refused n e = go (decode image) e
-    where
-      go : (d : Decoded) → Refused₁ n ≡ readingOf d → asked (named d h) (byBook d room space budget) ≡ turned n
-      go (accepted b) q = let z : _≡_ {A = ℕ} 0 1 = cc in absurd (omega arith)
-      go (refused m) q = let same : n ≡ m = cc in ap turned (sym same)
+module _ (image : List ℕ) (h budget room space : ℕ) (a : Admitted image budget room space) where
+  on-book : (t : Bool) → ltb h (a .book .b .abducibles) ≡ t → verdictResult image h budget room space ≡ asked t (resultOf image budget room space)
+  unfolding verdictResult
+  on-book t e = ap (λ (u : Bool). asked u (resultOf image budget room space)) (ap (λ (d : Decoded). named d h) (a .book .book) ∙ e)
 
-  -- what an accepted image's book and the numbers decide
-  abbrev onBook : Book → Result
-  onBook b = asked (ltb h (b .abducibles)) (byBook (accepted b) room space budget)
+  unnamed : a .book .b .abducibles ≤ h → verdictResult image h budget room space ≡ turned 23
+  unnamed k = on-book false (le-ltb h (a .book .b .abducibles) k) ∙ ap (asked false) (admitted-result image budget room space a)
 
-  on-book : (b : Book) → decode image ≡ accepted b → verdictResult image h budget room space ≡ onBook b
-  unfolding verdictResult resultOf
-  on-book b e = ap (λ (d : Decoded). asked (named d h) (byBook d room space budget)) e
+  -- the hypothesis is an abducible of the book: the listing decides
+  pub by-listing : h < a .book .b .abducibles → verdictResult image h budget room space ≡ resultOf image budget room space
+  by-listing k =
+      let r = admitted-result image budget room space a in
+      on-book true (lt-ltb h (a .book .b .abducibles) k) ∙ ap (asked true) r ∙ sym r
 
-  module _ (b : Book) (e : decode image ≡ accepted b) where
-    pub early-long : 1024 < room → Early image h budget room space (Turned 20)
-    early-long p = on-book b e ∙ ap (asked (ltb h (b .abducibles))) (choose-true _ _ (lt-ltb 1024 room p))
+  pub hypothesis-small : h < a .book .b .abducibles → h < 64
+  hypothesis-small k = let few : a .book .b .abducibles ≤ 64 = within image (a .book .b) (a .book .book) .abducibles in omega arith
 
-    pub early-short : room ≤ 1024 → space < 16384 → Early image h budget room space (Turned 21)
-    early-short p q =
-        on-book b e ∙ ap (asked (ltb h (b .abducibles))) (choose-false _ _ (le-ltb 1024 room p) ∙ choose-true _ _ (lt-ltb space 16384 q))
-
-    pub early-budget : room ≤ 1024 → 16384 ≤ space → 1000000 < budget → Early image h budget room space (Turned 22)
-    early-budget p q r =
-        on-book b e
-        ∙ ap (asked (ltb h (b .abducibles)))
-        (choose-false _ _ (le-ltb 1024 room p) ∙ choose-false _ _ (le-ltb space 16384 q) ∙ choose-true _ _ (lt-ltb 1000000 budget r))
-
-    free : room ≤ 1024 → 16384 ≤ space → budget ≤ 1000000 → byBook (accepted b) room space budget ≡ searched (listing b room budget)
-    free p q r = choose-false _ _ (le-ltb 1024 room p) ∙ choose-false _ _ (le-ltb space 16384 q) ∙ choose-false _ _ (le-ltb 1000000 budget r)
-
-    pub early-hypothesis : room ≤ 1024 → 16384 ≤ space → budget ≤ 1000000 → b .abducibles ≤ h → Early image h budget room space (Turned 23)
-    early-hypothesis p q r k = on-book b e ∙ ap₂ asked (le-ltb h (b .abducibles) k) (free p q r)
-
-    pub early-search : room ≤ 1024 → 16384 ≤ space → budget ≤ 1000000 → h < b .abducibles → Early image h budget room space Search
-    unfolding resultOf
-    early-search p q r k =
-        let few : b .abducibles ≤ 64 = within image b e .abducibles in (
-          on-book b e
-              ∙ ap₂ asked (lt-ltb h (b .abducibles) k) (free p q r)
-              ∙ sym (ap (λ (d : Decoded). byBook d room space budget) e ∙ free p q r),
-          omega arith,
-        )
+-- a hypothesis that is none
+pub verdict-unnamed : (image : List ℕ) (h budget : ℕ) (list area : List ℕ) (a : Admitted image budget (length list) (length area))
+    → a .book .b .abducibles ≤ h → Verdicts image h budget list area (Refused 23 0) list area
+verdict-unnamed image h budget list area a k = turned-away image h budget list area 23 (unnamed image h budget (length list) (length area) a k)
 
 -- a list that is not empty is decided by its tests
 pub decided-by : (h : ℕ) (l : List ℕ) (n : ℕ) → (length l ≡ 0 → ⊥)
     → decided h l n ≡ choose (all (λ (d : ℕ). has d h) l) (Needed n) (choose (any (λ (d : ℕ). has d h) l) (Possible n) (RuledOut n))
 decided-by h [] n k = absurd (k refl)
 decided-by h (s ∷ l) n k = refl
-
--- a refusal before any search
-pub verdict-early : (image : List ℕ) (h budget : ℕ) (list area : List ℕ) (n : ℕ) (r : Asked) → Early image h budget (length list) (length area) r → r ≡ Turned n
-    → Verdicts image h budget list area (Refused n 0) list area
-verdict-early image h budget list area n r early i =
-    let e : verdictResult image h budget (length list) (length area) ≡ turned n = subst (Early image h budget (length list) (length area)) i early in
-    record {
-      answer = ap (verdictOf h) (sym e);
-      sets = ap (λ (x : Result). setsOf x list) (sym e);
-      work = ap (λ (x : Result). workOf x area) (sym e);
-    }
 
 -- a listing has no more sets than entries
 pub lists-count : (image : List ℕ) (budget : ℕ) (list area : List ℕ) (r : Listing) (list′ area′ : List ℕ) → Lists image budget list area r list′ area′
@@ -117,11 +80,6 @@ lists-count image budget list area r list′ area′ lists k n i = go (resultOf 
         omega (arith, length-append l (zeros (length list - length l)))
     go (searched (used-up j)) q t = let z : _≡_ {A = ℕ} 0 1 = cc in absurd (omega arith)
     go (searched (no-room j)) q t = let z : _≡_ {A = ℕ} 0 1 = cc in absurd (omega arith)
-
--- the search may begin
-pub search-may : (image : List ℕ) (h budget room space : ℕ) (r : Asked) → Early image h budget room space r → r ≡ Search
-    → (verdictResult image h budget room space ≡ resultOf image budget room space) × (h < 64)
-search-may image h budget room space r early i = subst (Early image h budget room space) i early
 
 -- a listing that was refused on the way, and one that finished
 module _ (image : List ℕ) (h budget : ℕ) (list area list′ area′ : List ℕ)

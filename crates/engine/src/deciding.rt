@@ -6,39 +6,7 @@ ghost use lib.ListN.{length, take};
 ghost use Rattle.base.specs.Lists.{all, any};
 ghost use Rattle.base.specs.Members.{has};
 ghost use Rattle.engine.specs.Verdict.{decided};
-ghost use Rattle.engine.specs.VerdictLaws.{Early};
 use super::Verdict;
-use book::Reading;
-use book::fields::field_at;
-
-// What the tests before any search find: a refusal's number, or that the search may begin.
-pub enum Asked {
-    Turned(u8),
-    Search,
-}
-
-pub fn before_search(image: &[u8], hypothesis: u32, budget: u32, room: usize, space: usize) -> Asked
-    ensures { λ r. ⌜ Early (now (image .entry)) hypothesis budget room space r ⌝ }
-{
-    match book::read(image) {
-        Reading::Refused(n) => Asked::Turned(n),
-        Reading::Accepted => {
-            if 1024 < room {
-                return Asked::Turned(20);
-            }
-            if space < 16384 {
-                return Asked::Turned(21);
-            }
-            if 1000000 < budget {
-                return Asked::Turned(22);
-            }
-            if field_at(image, 7) <= hypothesis {
-                return Asked::Turned(23);
-            }
-            Asked::Search
-        }
-    }
-}
 
 // Whether the hypothesis is in the set.
 fn is_in(set: u64, hypothesis: u32) -> bool

@@ -1,8 +1,9 @@
 // The engine's face: document 01's calls on a rule book, each with its promise. No call has a `requires`: on all bytes and numbers
 // it ends with an answer or a numbered refusal. The promises stand in specs/, one file for each call. The reader is `book::read`.
 
-use deciding::Asked;
+use book::fields::field_at;
 pub use judging::Judgement;
+use lister::Asked;
 pub use lister::Listing;
 pub use sets::Joined;
 ghost use Rattle.engine.specs.Judge.{Judges};
@@ -48,13 +49,17 @@ pub fn verdict_on(
 ) -> Verdict
     ensures { λ r. ⌜ Verdicts (now (image .entry)) hypothesis budget (now (sets .entry)) (now (work .entry)) r (now (sets .exit)) (now (work .exit)) ⌝ }
 {
-    let asked = deciding::before_search(image, hypothesis, budget, sets.len(), work.len());
-    match asked {
+    match lister::before_search(image, budget, sets.len(), work.len()) {
         Asked::Turned(number) => Verdict::Refused(number, 0),
-        Asked::Search => match lister::list(image, budget, sets, work) {
-            Listing::Refused(number, nodes) => Verdict::Refused(number, nodes),
-            Listing::Listed(count, nodes) => deciding::decide(sets, count, hypothesis, nodes),
-        },
+        Asked::Search => {
+            if field_at(image, 7) <= hypothesis {
+                return Verdict::Refused(23, 0);
+            }
+            match lister::list_book(image, budget, sets, work) {
+                Listing::Refused(number, nodes) => Verdict::Refused(number, nodes),
+                Listing::Listed(count, nodes) => deciding::decide(sets, count, hypothesis, nodes),
+            }
+        }
     }
 }
 

@@ -1,4 +1,4 @@
--- The ways to a listing: turned away, or by what a search leaves.
+-- The ways to a listing: what the tests before any search say, and what a search leaves.
 -- Assumes nothing.
 use Prim.Native.Nat.{ℕ, _+_, _-_, _≤_, _<_}
 use native.Mathlib.Omega.{arith}
@@ -14,9 +14,12 @@ use Rattle.book.specs.Accepted.{orderly}
 use Rattle.sets.specs.Kept.{zeros, sort, sort-length}
 use Rattle.searching.specs.Rules.{root, Outcome, finished, used-up, no-room, run-from, sent, listing}
 use Rattle.searching.specs.Main.{Explanations, listed}
+use Rattle.lister.specs.declared.Asked.{Asked}
+use Rattle.lister.specs.declared.Asked.the-variants.{Turned, Search}
 use Rattle.lister.specs.declared.Listing.{Listing}
 use Rattle.lister.specs.declared.Listing.the-variants.{Listed, Refused}
 use Rattle.lister.specs.declared.walk.Run.{Run}
+use Rattle.lister.specs.Start.{IsBook}
 use Rattle.lister.specs.Promise.{Result, turned, searched, byBook, resultOf, answerOf, setsOf, workOf, Explained, Lists}
 
 -- ---- a search's results
@@ -98,49 +101,68 @@ module _ (image : List ℕ) (budget : ℕ) (old work : List ℕ) (kept : List �
 
 -- ---- the ways to a result
 
--- turned away
-turned-lists : (image : List ℕ) (budget : ℕ) (sets work : List ℕ) (n : ℕ) → resultOf image budget (length sets) (length work) ≡ turned n
-    → Lists image budget sets work (Refused n 0) sets work
-turned-lists image budget sets work n e = record {
-  answer = ap answerOf (sym e);
-  sets = ap (λ (x : Result). setsOf x sets) (sym e);
-  work = ap (λ (x : Result). workOf x work) (sym e);
-  explanations = λ k m i. never i;
-}
+-- the search of this image may begin
+pub record Admitted (image : List ℕ) (budget room space : ℕ) : Type 0 where
+  pub book : IsBook image
+  pub few : room ≤ 1024
+  pub long : 16384 ≤ space
+  pub low : budget ≤ 1000000
+
+-- what the tests before any search say: a refusal's number, or that it may begin
+abbrev pub Early : List ℕ → ℕ → ℕ → ℕ → Asked → Type 0
+Early image budget room space (Turned n) = resultOf image budget room space ≡ turned n
+Early image budget room space Search = Admitted image budget room space
+
+module _ (image : List ℕ) (budget room space : ℕ) where
+  pub early-refused : (n : ℕ) → decode image ≡ refused n → Early image budget room space (Turned n)
+  unfolding resultOf
+  early-refused n e = ap (λ (d : Decoded). byBook d room space budget) e
+
+  module _ (i : IsBook image) where
+    on-book : resultOf image budget room space ≡ byBook (accepted (i .b)) room space budget
+    unfolding resultOf
+    on-book = ap (λ (d : Decoded). byBook d room space budget) (i .book)
+
+    pub early-long : 1024 < room → Early image budget room space (Turned 20)
+    early-long p = on-book ∙ choose-true _ _ (lt-ltb 1024 room p)
+
+    pub early-short : room ≤ 1024 → space < 16384 → Early image budget room space (Turned 21)
+    early-short p q = on-book ∙ choose-false _ _ (le-ltb 1024 room p) ∙ choose-true _ _ (lt-ltb space 16384 q)
+
+    pub early-budget : room ≤ 1024 → 16384 ≤ space → 1000000 < budget → Early image budget room space (Turned 22)
+    early-budget p q r =
+        on-book ∙ choose-false _ _ (le-ltb 1024 room p) ∙ choose-false _ _ (le-ltb space 16384 q) ∙ choose-true _ _ (lt-ltb 1000000 budget r)
+
+  -- the search may begin
+  pub may-search : (r : Asked) → Early image budget room space r → r ≡ Search → Admitted image budget room space
+  may-search r early i = subst (Early image budget room space) i early
+
+  pub admitted-result : (a : Admitted image budget room space) → resultOf image budget room space ≡ searched (listing (a .book .b) room budget)
+  admitted-result a =
+      on-book (a .book) ∙ choose-false _ _ (le-ltb 1024 room (a .few)) ∙ choose-false _ _ (le-ltb space 16384 (a .long))
+      ∙ choose-false _ _ (le-ltb 1000000 budget (a .low))
 
 module _ (image : List ℕ) (budget : ℕ) (sets work : List ℕ) where
-  pub refused-lists : (n : ℕ) → decode image ≡ refused n → Lists image budget sets work (Refused n 0) sets work
-  unfolding resultOf
-  refused-lists n e = turned-lists image budget sets work n (ap (λ (d : Decoded). byBook d (length sets) (length work) budget) e)
+  -- turned away
+  pub turned-lists : (n : ℕ) (r : Asked) → Early image budget (length sets) (length work) r → r ≡ Turned n → Lists image budget sets work (Refused n 0) sets work
+  turned-lists n r early i =
+      let e : resultOf image budget (length sets) (length work) ≡ turned n = subst (Early image budget (length sets) (length work)) i early in
+      record {
+        answer = ap answerOf (sym e);
+        sets = ap (λ (x : Result). setsOf x sets) (sym e);
+        work = ap (λ (x : Result). workOf x work) (sym e);
+        explanations = λ k m j. never j;
+      }
 
-  module _ (b : Book) (e : decode image ≡ accepted b) where
-    book-result : resultOf image budget (length sets) (length work) ≡ byBook (accepted b) (length sets) (length work) budget
-    unfolding resultOf
-    book-result = ap (λ (d : Decoded). byBook d (length sets) (length work) budget) e
-
-    pub long-list : 1024 < length sets → Lists image budget sets work (Refused 20 0) sets work
-    long-list p = turned-lists image budget sets work 20 (book-result ∙ choose-true _ _ (lt-ltb 1024 (length sets) p))
-
-    pub short-work : length sets ≤ 1024 → length work < 16384 → Lists image budget sets work (Refused 21 0) sets work
-    short-work p q = turned-lists image budget sets work 21 (book-result ∙ choose-false _ _ (le-ltb 1024 (length sets) p) ∙ choose-true _ _ (lt-ltb (length work) 16384 q))
-
-    pub high-budget : length sets ≤ 1024 → 16384 ≤ length work → 1000000 < budget → Lists image budget sets work (Refused 22 0) sets work
-    high-budget p q r =
-        turned-lists image budget sets work 22
-        (book-result ∙ choose-false _ _ (le-ltb 1024 (length sets) p) ∙ choose-false _ _ (le-ltb (length work) 16384 q) ∙ choose-true _ _ (lt-ltb 1000000 budget r))
-
-    search-result : length sets ≤ 1024 → 16384 ≤ length work → budget ≤ 1000000
-        → resultOf image budget (length sets) (length work) ≡ searched (listing b (length sets) budget)
-    search-result p q r = book-result ∙ choose-false _ _ (le-ltb 1024 (length sets) p) ∙ choose-false _ _ (le-ltb (length work) 16384 q) ∙ choose-false _ _ (le-ltb 1000000 budget r)
-
-    pub searched-lists : length sets ≤ 1024 → 16384 ≤ length work → budget ≤ 1000000 → (r : Listing) (sets′ work′ : List ℕ) → Searched image budget sets work r sets′ work′
-        → Lists image budget sets work r sets′ work′
-    searched-lists p q t r sets′ work′ h =
-        let same : h .b ≡ b = cc (h .book, e) in
-        let result : resultOf image budget (length sets) (length work) ≡ searched (listing (h .b) (length sets) budget) = search-result p q t ∙ ap (λ (c : Book). searched (listing c (length sets) budget)) (sym same) in
-        record {
-          answer = h .answer ∙ ap answerOf (sym result);
-          sets = h .sets ∙ ap (λ (x : Result). setsOf x sets) (sym result);
-          work = h .work ∙ ap (λ (x : Result). workOf x work) (sym result);
-          explanations = λ k n i. explained image budget sets work r sets′ work′ h k n i;
-        }
+  pub searched-lists : Admitted image budget (length sets) (length work) → (r : Listing) (sets′ work′ : List ℕ) → Searched image budget sets work r sets′ work′
+      → Lists image budget sets work r sets′ work′
+  searched-lists a r sets′ work′ h =
+      let same : h .b ≡ a .book .b = cc (h .book, a .book .book) in
+      let result : resultOf image budget (length sets) (length work) ≡ searched (listing (h .b) (length sets) budget) =
+      admitted-result image budget (length sets) (length work) a ∙ ap (λ (c : Book). searched (listing c (length sets) budget)) (sym same) in
+      record {
+        answer = h .answer ∙ ap answerOf (sym result);
+        sets = h .sets ∙ ap (λ (x : Result). setsOf x sets) (sym result);
+        work = h .work ∙ ap (λ (x : Result). workOf x work) (sym result);
+        explanations = λ k n i. explained image budget sets work r sets′ work′ h k n i;
+      }

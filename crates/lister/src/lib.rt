@@ -8,11 +8,9 @@ pub mod walk;
 
 use book::Reading;
 use book::fields::field_at;
-ghost use Prim.Native.Nat.{_≤_};
 ghost use lib.ListN.{length};
-ghost use Rattle.lister.specs.Start.{IsBook};
 ghost use Rattle.lister.specs.Promise.{Lists};
-ghost use Rattle.lister.specs.PromiseLaws.{Searched};
+ghost use Rattle.lister.specs.PromiseLaws.{Admitted, Early};
 
 // The number of sets, or a refusal's number; then the nodes visited.
 pub enum Listing {
@@ -26,31 +24,46 @@ const SPACE: usize = 16384;
 
 const MOST_BUDGET: u32 = 1000000;
 
-// Lists the smallest explanations of the image's book.
-pub fn list(image: &[u8], budget: u32, sets: &mut [u64], work: &mut [u32]) -> Listing
-    ensures { λ r. ⌜ Lists (now (image .entry)) budget (now (sets .entry)) (now (work .entry)) r (now (sets .exit)) (now (work .exit)) ⌝ }
+// What the tests before any search find: a refusal's number, or that the search may begin.
+pub enum Asked {
+    Turned(u8),
+    Search,
+}
+
+pub fn before_search(image: &[u8], budget: u32, room: usize, space: usize) -> Asked
+    ensures { λ r. ⌜ Early (now (image .entry)) budget room space r ⌝ }
 {
     match book::read(image) {
-        Reading::Refused(n) => Listing::Refused(n, 0),
+        Reading::Refused(n) => Asked::Turned(n),
         Reading::Accepted => {
-            if LONGEST < sets.len() {
-                return Listing::Refused(20, 0);
+            if LONGEST < room {
+                return Asked::Turned(20);
             }
-            if work.len() < SPACE {
-                return Listing::Refused(21, 0);
+            if space < SPACE {
+                return Asked::Turned(21);
             }
             if MOST_BUDGET < budget {
-                return Listing::Refused(22, 0);
+                return Asked::Turned(22);
             }
-            list_book(image, budget, sets, work)
+            Asked::Search
         }
     }
 }
 
-// The same for an image that is a book's, with a list, a work area and a budget that will do.
-fn list_book(image: &[u8], budget: u32, sets: &mut [u64], work: &mut [u32]) -> Listing
-    requires { ⌜ IsBook (now image) × (length (now sets) ≤ 1024) × (16384 ≤ length (now work)) × (budget ≤ 1000000) ⌝ }
-    ensures { λ r. ⌜ Searched (now (image .entry)) budget (now (sets .entry)) (now (work .entry)) r (now (sets .exit)) (now (work .exit)) ⌝ }
+// Lists the smallest explanations of the image's book.
+pub fn list(image: &[u8], budget: u32, sets: &mut [u64], work: &mut [u32]) -> Listing
+    ensures { λ r. ⌜ Lists (now (image .entry)) budget (now (sets .entry)) (now (work .entry)) r (now (sets .exit)) (now (work .exit)) ⌝ }
+{
+    match before_search(image, budget, sets.len(), work.len()) {
+        Asked::Turned(n) => Listing::Refused(n, 0),
+        Asked::Search => list_book(image, budget, sets, work),
+    }
+}
+
+// The same where the search may begin.
+pub fn list_book(image: &[u8], budget: u32, sets: &mut [u64], work: &mut [u32]) -> Listing
+    requires { ⌜ Admitted (now image) budget (length (now sets)) (length (now work)) ⌝ }
+    ensures { λ r. ⌜ Lists (now (image .entry)) budget (now (sets .entry)) (now (work .entry)) r (now (sets .exit)) (now (work .exit)) ⌝ }
 {
     let root = start::start(image, work);
     let abducibles = field_at(image, 7);

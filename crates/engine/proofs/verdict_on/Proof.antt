@@ -1,8 +1,13 @@
 -- `engine::verdict_on` meets its promise: a refusal before any search, one of the listing, or the verdict by its list.
 -- Assumes nothing.
+use Prim.Native.Nat.{_<_}
 use mathlib.Core.Path.{sym, subst}
+use native.Mathlib.Omega.{arith}
+use lib.ListN.{length}
+use Rattle.book.specs.Shown.{shown}
+use Rattle.lister.specs.PromiseLaws.{Admitted, may-search}
 use Rattle.engine.specs.Verdict.{Verdicts}
-use Rattle.engine.specs.VerdictLaws.{verdict-early, lists-count, search-may, verdict-refused, verdict-listed}
+use Rattle.engine.specs.VerdictLaws.{verdict-early, verdict-unnamed, by-listing, hypothesis-small, lists-count, verdict-refused, verdict-listed}
 use Rattle.engine.specs.declared.Verdict.{Verdict}
 use borrow.Author.Needs.{needs}
 use Rattle.engine.proofs.verdict_on.Statement.{statement}
@@ -11,29 +16,56 @@ use Rattle.engine.proofs.verdict_on.Tie as tie
 before-search-requires : tie.Need-before-search-requires
 before-search-requires c κs = search needs
 
-enum-known-asked : tie.Need-enum-known-asked
-enum-known-asked c = search needs
+enum-known-number : tie.Need-enum-known-number
+enum-known-number c = search needs
 
 enum-told : tie.Need-enum-told
 enum-told c = search needs
 
-list-requires : tie.Need-list-requires
-list-requires c κs = search needs
+-- the search may begin
+admitted : (m : tie.After-enum-told) → let a = m .before .before .before .before .before .before .args in
+    Admitted (a .image .now) (a .budget) (length (a .sets .now)) (length (a .work .now))
+admitted m = may-search _ _ _ _ _ (m .before .before .before-search .ensures) (m .enum-told .given .1)
 
-enum-known-number : tie.Need-enum-known-number
-enum-known-number c = search needs
+field-at-requires : tie.Need-field-at-requires
+field-at-requires c κs =
+    let i = admitted c .book in
+    let sh = shown _ (i .b) (i .book) in
+    let f = sh .front in
+    let g = sh .fits in
+    omega arith
+
+returns : tie.Need-returns
+returns c =
+    let i = admitted (c .before .before) .book in
+    let a = shown _ (i .b) (i .book) .abducibles in
+    verdict-unnamed _ _ _ _ _ (admitted (c .before .before)) (omega (arith, c .before .field-at .ensures .0))
+
+-- and the hypothesis is an abducible
+known : (m : tie.After-list-book-arg) → m .before .before .before .before .before .before .before .before .before .args .hypothesis < admitted (m .before .before .before) .book .b .abducibles
+known m =
+    let i = admitted (m .before .before .before) .book in
+    let a = shown _ (i .b) (i .book) .abducibles in
+    omega (arith, m .before .before .field-at .ensures .0, m .before .if1 .left)
+
+list-book-requires : tie.Need-list-book-requires
+list-book-requires c κs = admitted (c .before .before .before .before)
+
+enum-known-number-2 : tie.Need-enum-known-number-2
+enum-known-number-2 c = search needs
 
 enum-known-count : tie.Need-enum-known-count
 enum-known-count c = search needs
 
 decide-requires : tie.Need-decide-requires
-decide-requires c κs = (
-  lists-count _ _ _ _ _ _ _ (c .before .before .before .before .before .before .before .before .list .ensures) _ _ (c .before .before .count .given .1),
-  search-may _ _ _ _ _ _ (c .before .before .before .before .before .before .before .before .before .before .before .before .before .before-search .ensures) (c .before .before .before .before .before .before .before .before .before .before .before .enum-told .given .1) .1,
-)
+decide-requires c κs =
+    let m = c .before .before .before .before .before .before .before .before in (
+      lists-count _ _ _ _ _ _ _ (m .list-book .ensures) _ _ (c .before .before .count .given .1),
+      hypothesis-small _ _ _ _ _ (admitted (m .before .before .before .before .before)) (known (m .before .before)),
+    )
 
-returns : tie.Need-returns
-returns c = verdict-early _ _ _ _ _ _ _ (c .before .before .before .before-search .ensures) (c .before .asked .given .1)
+returns-2 : tie.Need-returns-2
+returns-2 c = verdict-early _ _ _ _ _ _ _ (c .before .before .before .before-search .ensures) (c .before .number .given .1)
 
 same-length : tie.Need-same-length
 same-length c = search needs
@@ -41,10 +73,11 @@ same-length c = search needs
 same-length-2 : tie.Need-same-length-2
 same-length-2 c = search needs
 
-returns-2 : tie.Need-returns-2
-returns-2 c =
-    verdict-refused _ _ _ _ _ _ _ (search-may _ _ _ _ _ _ (c .before .before .before .before .before .before .before .before .before .before .before .before .before-search .ensures) (c .before .before .before .before .before .before .before .before .before .before .enum-told .given .1) .0) _ (c .before .before .before .before .before .before .before .list .ensures) _ _
-    (c .before .number .given .1)
+returns-3 : tie.Need-returns-3
+returns-3 c =
+    let m = c .before .before .before .before .before .before .before in
+    verdict-refused _ _ _ _ _ _ _ (by-listing _ _ _ _ _ (admitted (m .before .before .before .before .before)) (known (m .before .before)))
+    _ (m .list-book .ensures) _ _ (c .before .number2 .given .1)
 
 same-length-3 : tie.Need-same-length-3
 same-length-3 c = search needs
@@ -52,30 +85,33 @@ same-length-3 c = search needs
 same-length-4 : tie.Need-same-length-4
 same-length-4 c = search needs
 
-returns-3 : tie.Need-returns-3
-returns-3 c =
-    let a = c .before .before .before .before .before .before .before .before .before .before .before .before .before .before .before .before .before .before .args in
+returns-4 : tie.Need-returns-4
+returns-4 c =
+    let m = c .before .before .before .before .before .before .before .before .before in
+    let a = m .before .before .before .before .before .before .before .before .before .before .before .args in
     subst
-    (λ (q : Verdict). Verdicts (a .image .now) (a .hypothesis) (a .budget) (a .sets .now) (a .work .now) q (c .before .before .before .before .before .before .before .before .before .list .last .1 .1 .0) (c .before .before .before .before .before .before .before .before .before .list .last .1 .1 .1 .0))
+    (λ (q : Verdict). Verdicts (a .image .now) (a .hypothesis) (a .budget) (a .sets .now) (a .work .now) q (m .list-book .last .1 .1 .0) (m .list-book .last .1 .1 .1 .0))
     (sym (c .decide .ensures))
-    (verdict-listed _ _ _ _ _ _ _ (search-may _ _ _ _ _ _ (c .before .before .before .before .before .before .before .before .before .before .before .before .before .before .before-search .ensures) (c .before .before .before .before .before .before .before .before .before .before .before .before .enum-told .given .1) .0) _ (c .before .before .before .before .before .before .before .before .before .list .ensures) _ _
-    (c .before .before .before .count .given .1))
+    (verdict-listed _ _ _ _ _ _ _ (by-listing _ _ _ _ _ (admitted (m .before .before .before .before .before)) (known (m .before .before)))
+    _ (m .list-book .ensures) _ _ (c .before .before .before .count .given .1))
 
 pub verdict-on-spec : {M : Type 1} → statement M
 verdict-on-spec =
     tie.close
     (tie.spec
     before-search-requires
-    enum-known-asked
-    enum-told
-    list-requires
     enum-known-number
+    enum-told
+    field-at-requires
+    returns
+    list-book-requires
+    enum-known-number-2
     enum-known-count
     decide-requires
-    returns
+    returns-2
     same-length
     same-length-2
-    returns-2
+    returns-3
     same-length-3
     same-length-4
-    returns-3)
+    returns-4)

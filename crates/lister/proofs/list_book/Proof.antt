@@ -2,6 +2,7 @@
 use mathlib.Core.Path.{_∙_}
 use native.Mathlib.Omega.{arith}
 use Rattle.lister.specs.Start.{counts}
+use Rattle.lister.specs.PromiseLaws.{searched-lists}
 use Rattle.lister.specs.Whole.{begins, count-fits, ends-listed, ends-short, ends-full}
 use borrow.Author.Needs.{needs}
 use Rattle.lister.proofs.list_book.Statement.{statement}
@@ -15,79 +16,65 @@ use Rattle.lister.proofs.search.walk_on.Reads as walk-on-reads
 use Rattle.sets.proofs.lists.clear.Reads as clear-reads
 use Rattle.sets.proofs.order.order.Reads as order-reads
 
--- src/lib.rt:54:9
 start-requires : tie.Need-start-requires
 start-requires c κs = search needs
 
--- src/lib.rt:55:9
 field-at-requires : tie.Need-field-at-requires
-field-at-requires c κs = let n = counts _ (c .before .before .before .before .before .before .before .pre .0) in omega (arith, n .front, n .there, n .place)
+field-at-requires c κs = let n = counts _ (c .before .before .before .before .before .before .before .pre .book) in omega (arith, n .front, n .there, n .place)
 
--- src/lib.rt:56:9
 walk-on-requires : tie.Need-walk-on-requires
-walk-on-requires c κs = let p = c .before .before .before .before .before .before .before .before .before .before .pre in (begins _ _ _ _ _ _ (p .0) (c .before .before .before .before .before .start .ensures) (p .1), c .before .before .field-at .ensures .0)
+walk-on-requires c κs = let p = c .before .before .before .before .before .before .before .before .before .before .pre in (begins _ _ _ _ _ _ (p .book) (c .before .before .before .before .before .start .ensures) (p .few), c .before .before .field-at .ensures .0)
 
--- src/lib.rt:57:5
 wipe-requires : tie.Need-wipe-requires
 wipe-requires c κs = search needs
 
--- src/lib.rt:59:17
 cast-count : tie.Need-cast-count
 cast-count c = search needs
 
--- src/lib.rt:61:9
 order-requires : tie.Need-order-requires
 order-requires c κs = let h = c .before .before .before .before .before .before .before .before .before .before .before .walk-on .ensures in count-fits _ _ (c .before .before .before .before .before .before .before .before .before .before .before .before .before .before .before .before .before .before .before .before .before .before .args .sets .now) (c .before .before .before .before .before .before .before .before .before .before .before .before .before .before .before .before .before .before .before .before .before .before .args .work .now) _ (c .before .before .before .before .before .before .before .before .before .before .before .walk-on .last .1 .1 .1 .1 .0) _ (h .stopped) (c .before .before .before .before .before .before .before .before .before .before .before .walk-on .kept .1 .1 .1 .0) (h .later ∙ c .before .before .before .before .before .before .before .before .before .before .before .before .before .before .before .before .before .start .ensures .later) (c .before .if1 .taken)
 
--- src/lib.rt:62:9
 clear-requires : tie.Need-clear-requires
 clear-requires c κs = let h = c .before .before .before .before .before .before .before .before .before .before .before .before .before .before .before .walk-on .ensures in omega (arith, count-fits _ _ (c .before .before .before .before .before .before .before .before .before .before .before .before .before .before .before .before .before .before .before .before .before .before .before .before .before .before .args .sets .now) (c .before .before .before .before .before .before .before .before .before .before .before .before .before .before .before .before .before .before .before .before .before .before .before .before .before .before .args .work .now) _ (c .before .before .before .before .before .before .before .before .before .before .before .before .before .before .before .walk-on .last .1 .1 .1 .1 .0) _ (h .stopped) (c .before .before .before .before .before .before .before .before .before .before .before .before .before .before .before .walk-on .kept .1 .1 .1 .0) (h .later ∙ c .before .before .before .before .before .before .before .before .before .before .before .before .before .before .before .before .before .before .before .before .before .start .ensures .later) (c .before .before .before .before .before .if1 .taken), c .before .before .before .order .kept .0)
 
--- src/lib.rt:63:9
 same-length : tie.Need-same-length
 same-length c = search needs
 
--- src/lib.rt:63:9
 same-length-2 : tie.Need-same-length-2
 same-length-2 c = search needs
 
--- src/lib.rt:63:9
 returns : tie.Need-returns
 returns c =
     let h = c .before .before .before .before .before .before .before .before .before .before .before .before .before .before .before .before .before .before .walk-on .ensures in
-    ends-listed _ _ (c .before .before .before .before .before .before .before .before .before .before .before .before .before .before .before .before .before .before .before .before .before .before .before .before .before .before .before .before .before .args .sets .now) (c .before .before .before .before .before .before .before .before .before .before .before .before .before .before .before .before .before .before .before .before .before .before .before .before .before .before .before .before .before .args .work .now) _ (c .before .before .before .before .before .before .before .before .before .before .before .before .before .before .before .before .before .before .walk-on .last .1 .1 .1 .1 .0) _ (h .stopped) (c .before .before .before .before .before .before .before .before .before .before .before .before .before .before .before .before .before .before .walk-on .kept .1 .1 .1 .0) (h .later ∙ c .before .before .before .before .before .before .before .before .before .before .before .before .before .before .before .before .before .before .before .before .before .before .before .before .start .ensures .later) _ _ _ (c .before .before .before .before .before .before .before .before .if1 .taken) (c .before .before .before .before .before .before .order .ensures) (c .before .before .clear .ensures) (c .before .before .before .before .before .before .before .before .before .before .before .before .wipe .ensures)
+    searched-lists _ _ _ _ (c .before .before .before .before .before .before .before .before .before .before .before .before .before .before .before .before .before .before .before .before .before .before .before .before .before .before .before .before .before .pre) _ _ _
+    (ends-listed _ _ (c .before .before .before .before .before .before .before .before .before .before .before .before .before .before .before .before .before .before .before .before .before .before .before .before .before .before .before .before .before .args .sets .now) (c .before .before .before .before .before .before .before .before .before .before .before .before .before .before .before .before .before .before .before .before .before .before .before .before .before .before .before .before .before .args .work .now) _ (c .before .before .before .before .before .before .before .before .before .before .before .before .before .before .before .before .before .before .walk-on .last .1 .1 .1 .1 .0) _ (h .stopped) (c .before .before .before .before .before .before .before .before .before .before .before .before .before .before .before .before .before .before .walk-on .kept .1 .1 .1 .0) (h .later ∙ c .before .before .before .before .before .before .before .before .before .before .before .before .before .before .before .before .before .before .before .before .before .before .before .before .start .ensures .later) _ _ _ (c .before .before .before .before .before .before .before .before .if1 .taken) (c .before .before .before .before .before .before .order .ensures) (c .before .before .clear .ensures) (c .before .before .before .before .before .before .before .before .before .before .before .before .wipe .ensures))
 
--- src/lib.rt:65:5
 clear-requires-2 : tie.Need-clear-requires-2
 clear-requires-2 c κs = search needs
 
--- src/lib.rt:67:9
 same-length-3 : tie.Need-same-length-3
 same-length-3 c = search needs
 
--- src/lib.rt:67:9
 same-length-4 : tie.Need-same-length-4
 same-length-4 c = search needs
 
--- src/lib.rt:67:9
 returns-2 : tie.Need-returns-2
 returns-2 c =
     let h = c .before .before .before .before .before .before .before .before .before .before .before .before .before .before .before .walk-on .ensures in
-    ends-short _ _ (c .before .before .before .before .before .before .before .before .before .before .before .before .before .before .before .before .before .before .before .before .before .before .before .before .before .before .args .sets .now) (c .before .before .before .before .before .before .before .before .before .before .before .before .before .before .before .before .before .before .before .before .before .before .before .before .before .before .args .work .now) _ (c .before .before .before .before .before .before .before .before .before .before .before .before .before .before .before .walk-on .last .1 .1 .1 .1 .0) _ (h .stopped) (c .before .before .before .before .before .before .before .before .before .before .before .before .before .before .before .walk-on .kept .1 .1 .1 .0) (h .later ∙ c .before .before .before .before .before .before .before .before .before .before .before .before .before .before .before .before .before .before .before .before .before .start .ensures .later) _ _ (c .if2 .taken) (c .before .before .before .clear2 .ensures) (c .before .before .before .before .before .before .before .before .before .wipe .ensures)
+    searched-lists _ _ _ _ (c .before .before .before .before .before .before .before .before .before .before .before .before .before .before .before .before .before .before .before .before .before .before .before .before .before .before .pre) _ _ _
+    (ends-short _ _ (c .before .before .before .before .before .before .before .before .before .before .before .before .before .before .before .before .before .before .before .before .before .before .before .before .before .before .args .sets .now) (c .before .before .before .before .before .before .before .before .before .before .before .before .before .before .before .before .before .before .before .before .before .before .before .before .before .before .args .work .now) _ (c .before .before .before .before .before .before .before .before .before .before .before .before .before .before .before .walk-on .last .1 .1 .1 .1 .0) _ (h .stopped) (c .before .before .before .before .before .before .before .before .before .before .before .before .before .before .before .walk-on .kept .1 .1 .1 .0) (h .later ∙ c .before .before .before .before .before .before .before .before .before .before .before .before .before .before .before .before .before .before .before .before .before .start .ensures .later) _ _ (c .if2 .taken) (c .before .before .before .clear2 .ensures) (c .before .before .before .before .before .before .before .before .before .wipe .ensures))
 
--- src/lib.rt:50:1
 same-length-5 : tie.Need-same-length-5
 same-length-5 c = search needs
 
--- src/lib.rt:50:1
 same-length-6 : tie.Need-same-length-6
 same-length-6 c = search needs
 
--- src/lib.rt:50:1
 returns-3 : tie.Need-returns-3
 returns-3 c =
     let h = c .before .before .before .before .before .before .before .before .before .before .before .before .before .before .before .walk-on .ensures in
-    ends-full _ _ (c .before .before .before .before .before .before .before .before .before .before .before .before .before .before .before .before .before .before .before .before .before .before .before .before .before .before .args .sets .now) (c .before .before .before .before .before .before .before .before .before .before .before .before .before .before .before .before .before .before .before .before .before .before .before .before .before .before .args .work .now) _ (c .before .before .before .before .before .before .before .before .before .before .before .before .before .before .before .walk-on .last .1 .1 .1 .1 .0) _ (h .stopped) (c .before .before .before .before .before .before .before .before .before .before .before .before .before .before .before .walk-on .kept .1 .1 .1 .0) (h .later ∙ c .before .before .before .before .before .before .before .before .before .before .before .before .before .before .before .before .before .before .before .before .before .start .ensures .later) _ _ (c .before .before .before .before .before .if1 .left) (c .if2 .left) (c .before .before .before .clear2 .ensures) (c .before .before .before .before .before .before .before .before .before .wipe .ensures)
+    searched-lists _ _ _ _ (c .before .before .before .before .before .before .before .before .before .before .before .before .before .before .before .before .before .before .before .before .before .before .before .before .before .before .pre) _ _ _
+    (ends-full _ _ (c .before .before .before .before .before .before .before .before .before .before .before .before .before .before .before .before .before .before .before .before .before .before .before .before .before .before .args .sets .now) (c .before .before .before .before .before .before .before .before .before .before .before .before .before .before .before .before .before .before .before .before .before .before .before .before .before .before .args .work .now) _ (c .before .before .before .before .before .before .before .before .before .before .before .before .before .before .before .walk-on .last .1 .1 .1 .1 .0) _ (h .stopped) (c .before .before .before .before .before .before .before .before .before .before .before .before .before .before .before .walk-on .kept .1 .1 .1 .0) (h .later ∙ c .before .before .before .before .before .before .before .before .before .before .before .before .before .before .before .before .before .before .before .before .before .start .ensures .later) _ _ (c .before .before .before .before .before .if1 .left) (c .if2 .left) (c .before .before .before .clear2 .ensures) (c .before .before .before .before .before .before .before .before .before .wipe .ensures))
 
 pub list-book-spec : {M : Type 1} → statement M
 list-book-spec =
