@@ -2,7 +2,8 @@
  *
  *     answers FILE BUDGET ROOM [FILE BUDGET ROOM ..]
  *
- * A line for each book: kind, number and nodes, then every entry of the list. */
+ * A line for each book: kind, number and nodes, then every entry of the list; of an image that is refused the number
+ * alone. */
 
 #include "book.h"
 
@@ -24,6 +25,11 @@ static int work_is_clean(void)
 
 static void print_answer(const struct book *book)
 {
+    uint32_t refusal = c_read(book->image, book->length);
+    if (refusal != 0) {
+        printf("refused %u\n", refusal);
+        return;
+    }
     memset(sets, 0xff, sizeof sets);
     memset(work, 0xff, sizeof work);
     uint64_t answer = c_list(book->image, book->length, book->budget, sets, book->room, work, WORK_NUMBERS + BEYOND);

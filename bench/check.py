@@ -3,11 +3,13 @@
     python3 check.py [FOLDER]
 
 FOLDER holds the Python implementation, ../tests unless given. Compared are the answer, the node number and every entry
-of the list, on the benchmark's books and on 2,000 small random ones, with budgets and rooms about those that just do.
-Searches above 200,000 nodes are left out, for Python takes too long over them.
+of the list, on the benchmark's books and on 2,000 small random ones, with budgets and rooms about those that just do;
+and the refusals of 5,000 images, most of them damaged. Searches above 200,000 nodes are left out, for Python takes too
+long over them.
 """
 
 import os
+import random
 import subprocess
 import sys
 import tempfile
@@ -17,13 +19,16 @@ from books import MOST_ROOM, Book, Dice, entries, lines, names
 
 HERE = Path(__file__).parent
 RANDOM_BOOKS = 2000
+IMAGES = 5000
 TRIED_NODES = 3000  # how far a random book is searched to choose a budget and a room for it
 MOST_NODES = 200_000
 WORK_NUMBERS = 16384
 
 sys.dont_write_bytecode = True
 sys.path.append(sys.argv[1] if len(sys.argv) > 1 else str(HERE.parent / "tests"))
-import search  # the Python implementation's; after the benchmark's own modules, which it must not hide
+# The Python implementation's; after the benchmark's own modules, which they must not hide.
+import images
+import search
 
 
 # Random books.
@@ -72,14 +77,21 @@ def random_case(dice):
 
 def python_line(image, budget, room):
     result = search.listing(image, budget, room, WORK_NUMBERS)
+    if result.work == "untouched":
+        return f"refused {result.answer[1]}"
     kind = 0 if result.answer[0] == "listed" else 1
     return " ".join(map(str, (kind, result.answer[1], result.nodes, *result.entries)))
+
+
+def nodes(line):
+    words = line.split()
+    return 0 if words[0] == "refused" else int(words[2])
 
 
 def c_lines(cases, folder):
     program = folder / "answers"
     compiler = os.environ.get("CC", "cc")
-    subprocess.run([compiler, "-O3", "-o", program, HERE / "answers.c", HERE / "lister.c"], check=True)
+    subprocess.run([compiler, "-O3", "-o", program, HERE / "answers.c", HERE / "lister.c", HERE / "reader.c"], check=True)
     words = []
     for i, (image, budget, room) in enumerate(cases):
         path = folder / str(i)
@@ -92,15 +104,17 @@ def main():
     dice = Dice(1)
     cases = [(Book(entry.text).image(), entry.budget, entry.room) for entry in entries()]
     cases += [random_case(dice) for _ in range(RANDOM_BOOKS)]
+    rng = random.Random(1)
+    cases += [(images.image(rng), 100, 4) for _ in range(IMAGES)]
     with tempfile.TemporaryDirectory() as folder:
         answers = c_lines(cases, Path(folder))
     if len(answers) != len(cases):
         sys.exit(f"the C lister gave {len(answers)} of {len(cases)} answers")
-    compared = [(case, line) for case, line in zip(cases, answers) if int(line.split()[2]) <= MOST_NODES]
+    compared = [(case, line) for case, line in zip(cases, answers) if nodes(line) <= MOST_NODES]
     differing = [case for case, line in compared if line != python_line(*case)]
     for image, budget, room in differing[:5]:
         print(f"differs: budget {budget}, room {room}, image {image.hex()}")
-    print(f"{len(compared)} books, {len(differing)} differences")
+    print(f"{len(compared)} images, {len(differing)} differences")
     sys.exit(1 if differing else 0)
 
 

@@ -1,6 +1,6 @@
 /* A plain C lister of the specification's search rules, written for speed.
  *
- * A reading pass writes the book as runs of tasks: the goal and the constraints, the body of each clause, the breaks
+ * The image is tested first (reader.c), as the engine tests it. A reading pass then writes the book as runs of tasks: the goal and the constraints, the body of each clause, the breaks
  * of each atom, the literals of each alternative. A task is one number, and `action` says what to do with it now. For
  * a want that depends on whether its atom is in T, in F or in neither, so a node costs one look at that table.
  *
@@ -21,6 +21,7 @@ enum {
     CONSTRAINTS = 128,
     CONSTRAINT_LITERALS = 1024,
     SETS = 1024,
+    MOST_BUDGET = 1000000,
 };
 
 /* A task. A want is its literal; behind wants, breaks and constraints come two that end a run. */
@@ -445,7 +446,11 @@ static void send_out(uint64_t *kept, size_t count, uint64_t *sets)
 uint64_t c_list(const uint8_t *image, size_t length, uint32_t budget, uint64_t *sets, size_t room, uint32_t *work,
                 size_t work_length)
 {
-    (void)length, (void)work_length;
+    uint32_t refusal = c_read(image, length);
+    if (refusal == 0)
+        refusal = room > SETS ? LONG_LIST : work_length < WORK_NUMBERS ? SHORT_WORK : budget > MOST_BUDGET ? LARGE_BUDGET : 0;
+    if (refusal != 0)
+        return answer(REFUSED, refusal, 0);
     struct lister *l = (struct lister *)(((uintptr_t)work + 7) & ~(uintptr_t)7);
     read_book(l, image);
     uint64_t result = search(l, budget, room);

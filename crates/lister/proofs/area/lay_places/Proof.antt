@@ -19,51 +19,39 @@ Inv-loop image work₀ base start count at₀ i₀ work at i = (i ≤ count) × 
 abbrev μ-loop : tie.MeasureT-loop
 μ-loop image work₀ base start count at₀ i₀ work at i = count - i
 
--- src/area.rt:32:5
 loop-holds : tie.Need-loop-holds Inv-loop μ-loop
 loop-holds c = (omega arith, sym (skip-first _ _), placed-first _ _ _ _, refl)
 
--- src/area.rt:33:28
 cast-place : tie.Need-cast-place Inv-loop μ-loop
 cast-place c = omega arith
 
--- src/area.rt:33:21
 add-place : tie.Need-add-place Inv-loop μ-loop
 add-place c = omega arith
 
--- src/area.rt:34:9
 mul-work : tie.Need-mul-work Inv-loop μ-loop
 mul-work c = omega arith
 
--- src/area.rt:34:9
 slice-write-work : tie.Need-slice-write-work Inv-loop μ-loop
 slice-write-work c = omega arith
 
--- src/area.rt:35:20
 cast-here : tie.Need-cast-here Inv-loop μ-loop
 cast-here c = omega (arith, record-there _ _ _ (c .before .before .before .before .pre .0) (c .before .loop .i) (c .before .loop .at) (c .loop-test .taken) (c .before .loop .inv .1))
 
--- src/area.rt:36:14
 add-at : tie.Need-add-at Inv-loop μ-loop
 add-at c = omega (arith, record-there _ _ _ (c .before .before .before .before .pre .0) (c .before .loop .i) (c .before .loop .at) (c .loop-test .taken) (c .before .loop .inv .1))
 
--- src/area.rt:36:23
 field-at-requires : tie.Need-field-at-requires Inv-loop μ-loop
 field-at-requires c κs = omega (arith, record-there _ _ _ (c .before .before .before .before .pre .0) (c .before .loop .i) (c .before .loop .at) (c .loop-test .taken) (c .before .loop .inv .1))
 
--- src/area.rt:36:14
 add-at-2 : tie.Need-add-at-2 Inv-loop μ-loop
 add-at-2 c = omega (arith, record-there _ _ _ (c .before .before .before .before .before .pre .0) (c .before .before .loop .i) (c .before .before .loop .at) (c .before .loop-test .taken) (c .before .before .loop .inv .1), c .field-at .ensures .0)
 
--- src/area.rt:37:9
 add-i : tie.Need-add-i Inv-loop μ-loop
 add-i c = omega arith
 
--- src/area.rt:32:5
 loop-less : tie.Need-loop-less Inv-loop μ-loop
 loop-less c = omega arith
 
--- src/area.rt:32:5
 loop-again : tie.Need-loop-again Inv-loop μ-loop
 loop-again c =
     let l = c .before .before .loop in
@@ -75,11 +63,9 @@ loop-again c =
       length-set (l .work) (a .base + l .i) (l .at) ∙ l .inv .3,
     )
 
--- src/area.rt:26:1
 same-length : tie.Need-same-length Inv-loop μ-loop
 same-length c = c .before .loop .inv .3
 
--- src/area.rt:26:1
 returns : tie.Need-returns Inv-loop μ-loop
 returns c =
     let l = c .before .loop in

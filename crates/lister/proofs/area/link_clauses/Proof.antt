@@ -15,95 +15,72 @@ Inv-loop image work₀ count c₀ work c = Linking image work₀ count work c
 abbrev μ-loop : tie.MeasureT-loop
 μ-loop image work₀ count c₀ work c = c
 
--- src/area.rt:48:5
 loop-holds : tie.Need-loop-holds Inv-loop μ-loop
 loop-holds c = linking-start _ _ _ (c .before .before .pre)
 
--- src/area.rt:49:26
 add-place : tie.Need-add-place Inv-loop μ-loop
 add-place c = omega (arith, head-of _ _ _ (c .before .before .before .before .pre) _ _ (c .loop-test .taken) (c .before .loop .inv) .few)
 
--- src/area.rt:49:21
 mul-place : tie.Need-mul-place Inv-loop μ-loop
 mul-place c = omega (arith, head-of _ _ _ (c .before .before .before .before .pre) _ _ (c .loop-test .taken) (c .before .loop .inv) .few)
 
--- src/area.rt:49:21
 slice-read-place : tie.Need-slice-read-place Inv-loop μ-loop
 slice-read-place c = omega (arith, head-of _ _ _ (c .before .before .before .before .before .pre) _ _ (c .before .loop-test .taken) (c .before .before .loop .inv) .few, c .before .before .before .before .before .pre .long, c .before .before .loop .inv .size)
 
--- src/area.rt:49:21
 cast-place : tie.Need-cast-place Inv-loop μ-loop
 cast-place c = let h = head-of _ _ _ (c .before .before .before .before .before .pre) _ _ (c .before .loop-test .taken) (c .before .before .loop .inv) in omega (arith, h .there, h .short)
 
--- src/area.rt:50:36
 add-field-at : tie.Need-add-field-at Inv-loop μ-loop
 add-field-at c = let h = head-of _ _ _ (c .before .before .before .before .before .pre) _ _ (c .before .loop-test .taken) (c .before .before .loop .inv) in omega (arith, h .there, h .short)
 
--- src/area.rt:50:20
 field-at-requires : tie.Need-field-at-requires Inv-loop μ-loop
 field-at-requires c κs = omega (arith, head-of _ _ _ (c .before .before .before .before .before .pre) _ _ (c .before .loop-test .taken) (c .before .before .loop .inv) .there)
 
--- src/area.rt:50:20
 cast-head : tie.Need-cast-head Inv-loop μ-loop
 cast-head c = omega arith
 
--- src/area.rt:51:25
 add-next : tie.Need-add-next Inv-loop μ-loop
 add-next c = omega arith
 
--- src/area.rt:51:20
 mul-next : tie.Need-mul-next Inv-loop μ-loop
 mul-next c = omega arith
 
--- src/area.rt:51:20
 slice-read-next : tie.Need-slice-read-next Inv-loop μ-loop
 slice-read-next c = omega (arith, head-of _ _ _ (c .before .before .before .before .before .before .before .pre) _ _ (c .before .before .before .loop-test .taken) (c .before .before .before .before .loop .inv) .head, c .before .field-at .ensures .0, c .before .before .before .before .before .before .before .pre .long, c .before .before .before .before .loop .inv .size)
 
--- src/area.rt:52:14
 add-work : tie.Need-add-work Inv-loop μ-loop
 add-work c = omega (arith, head-of _ _ _ (c .before .before .before .before .before .before .before .pre) _ _ (c .before .before .before .loop-test .taken) (c .before .before .before .before .loop .inv) .few)
 
--- src/area.rt:52:9
 mul-work : tie.Need-mul-work Inv-loop μ-loop
 mul-work c = omega (arith, head-of _ _ _ (c .before .before .before .before .before .before .before .pre) _ _ (c .before .before .before .loop-test .taken) (c .before .before .before .before .loop .inv) .few)
 
--- src/area.rt:52:9
 slice-write-work : tie.Need-slice-write-work Inv-loop μ-loop
 slice-write-work c = omega (arith, head-of _ _ _ (c .before .before .before .before .before .before .before .pre) _ _ (c .before .before .before .loop-test .taken) (c .before .before .before .before .loop .inv) .few, c .before .before .before .before .before .before .before .pre .long, c .before .before .before .before .loop .inv .size)
 
--- src/area.rt:53:22
 cast-clause : tie.Need-cast-clause Inv-loop μ-loop
 cast-clause c = omega (arith, head-of _ _ _ (c .before .before .before .before .before .before .before .pre) _ _ (c .before .before .before .loop-test .taken) (c .before .before .before .before .loop .inv) .few)
 
--- src/area.rt:54:14
 add-work-2 : tie.Need-add-work-2 Inv-loop μ-loop
 add-work-2 c = omega arith
 
--- src/area.rt:54:9
 mul-work-2 : tie.Need-mul-work-2 Inv-loop μ-loop
 mul-work-2 c = omega arith
 
--- src/area.rt:54:9
 slice-write-work-2 : tie.Need-slice-write-work-2 Inv-loop μ-loop
 slice-write-work-2 c = simp length-set (omega (arith, head-of _ _ _ (c .before .before .before .before .before .before .before .pre) _ _ (c .before .before .before .loop-test .taken) (c .before .before .before .before .loop .inv) .head, c .before .field-at .ensures .0, c .before .before .before .before .before .before .before .pre .long, c .before .before .before .before .loop .inv .size))
 
--- src/area.rt:55:9
 sub-c : tie.Need-sub-c Inv-loop μ-loop
 sub-c c = omega arith
 
--- src/area.rt:48:5
 loop-less : tie.Need-loop-less Inv-loop μ-loop
 loop-less c = omega arith
 
--- src/area.rt:48:5
 loop-again : tie.Need-loop-again Inv-loop μ-loop
 loop-again c = linking-step _ _ _ (c .before .before .before .before .before .before .before .pre) _ _ _ (c .before .before .before .loop-test .taken) (c .before .before .before .before .loop .inv) (c .before .field-at .ensures .0)
 
--- src/area.rt:43:1
 same-length : tie.Need-same-length Inv-loop μ-loop
 same-length c = c .before .loop .inv .size
 
--- src/area.rt:43:1
 returns : tie.Need-returns Inv-loop μ-loop
 returns c = linking-end _ _ _ (c .before .before .before .before .pre) _ _ (omega arith) (c .before .loop .inv)
 

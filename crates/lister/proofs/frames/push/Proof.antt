@@ -10,111 +10,84 @@ use Rattle.lister.proofs.frames.push.Tie as tie
 use Rattle.lister.proofs.frames.push.Reads as reads
 use Rattle.lister.proofs.frames.push.Lts as lts
 
--- src/frames.rt:38:21
 mul-at : tie.Need-mul-at
 mul-at c = search needs
 
--- src/frames.rt:38:14
 add-at : tie.Need-add-at
 add-at c = search needs
 
--- src/frames.rt:39:5
 mul-work : tie.Need-mul-work
 mul-work c = search needs
 
--- src/frames.rt:39:5
 slice-write-work : tie.Need-slice-write-work
 slice-write-work c = search needs
 
--- src/frames.rt:40:10
 add-work : tie.Need-add-work
 add-work c = search needs
 
--- src/frames.rt:40:5
 mul-work-2 : tie.Need-mul-work-2
 mul-work-2 c = search needs
 
--- src/frames.rt:40:5
 slice-write-work-2 : tie.Need-slice-write-work-2
 slice-write-work-2 c = simp length-set (omega arith)
 
--- src/frames.rt:41:10
 add-work-2 : tie.Need-add-work-2
 add-work-2 c = search needs
 
--- src/frames.rt:41:5
 mul-work-3 : tie.Need-mul-work-3
 mul-work-3 c = search needs
 
--- src/frames.rt:41:5
 slice-write-work-3 : tie.Need-slice-write-work-3
 slice-write-work-3 c = simp length-set (omega arith)
 
--- src/frames.rt:42:10
 add-work-3 : tie.Need-add-work-3
 add-work-3 c = search needs
 
--- src/frames.rt:42:5
 mul-work-4 : tie.Need-mul-work-4
 mul-work-4 c = search needs
 
--- src/frames.rt:42:5
 slice-write-work-4 : tie.Need-slice-write-work-4
 slice-write-work-4 c = simp length-set (omega arith)
 
--- src/frames.rt:43:10
 add-work-4 : tie.Need-add-work-4
 add-work-4 c = search needs
 
--- src/frames.rt:43:5
 mul-work-5 : tie.Need-mul-work-5
 mul-work-5 c = search needs
 
--- src/frames.rt:43:5
 slice-write-work-5 : tie.Need-slice-write-work-5
 slice-write-work-5 c = simp length-set (omega arith)
 
--- src/frames.rt:44:10
 add-work-5 : tie.Need-add-work-5
 add-work-5 c = search needs
 
--- src/frames.rt:44:5
 mul-work-6 : tie.Need-mul-work-6
 mul-work-6 c = search needs
 
--- src/frames.rt:44:5
 slice-write-work-6 : tie.Need-slice-write-work-6
 slice-write-work-6 c = simp length-set (omega arith)
 
--- src/frames.rt:45:10
 add-work-6 : tie.Need-add-work-6
 add-work-6 c = search needs
 
--- src/frames.rt:45:5
 mul-work-7 : tie.Need-mul-work-7
 mul-work-7 c = search needs
 
--- src/frames.rt:45:5
 slice-write-work-7 : tie.Need-slice-write-work-7
 slice-write-work-7 c = simp length-set (omega arith)
 
--- src/frames.rt:46:10
 add-work-7 : tie.Need-add-work-7
 add-work-7 c = search needs
 
--- src/frames.rt:46:5
 mul-work-8 : tie.Need-mul-work-8
 mul-work-8 c = search needs
 
--- src/frames.rt:46:5
 slice-write-work-8 : tie.Need-slice-write-work-8
 slice-write-work-8 c = simp length-set (omega arith)
 
--- src/frames.rt:34:1
 same-length : tie.Need-same-length
 same-length c = search needs
 
--- src/frames.rt:34:1
 returns : tie.Need-returns
 unfolding framed
 returns c =

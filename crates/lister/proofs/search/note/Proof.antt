@@ -9,35 +9,27 @@ use Rattle.lister.proofs.search.note.Lts as lts
 use Rattle.lister.proofs.search.ended.Reads as ended-reads
 use Rattle.sets.proofs.kept.insert.Reads as insert-reads
 
--- src/search.rt:16:16
 cast-held : tie.Need-cast-held
 cast-held c = search needs
 
--- src/search.rt:17:9
 insert-requires : tie.Need-insert-requires
 insert-requires c κs = search needs
 
--- src/search.rt:19:9
 ended-requires : tie.Need-ended-requires
 ended-requires c κs = search needs
 
--- src/search.rt:19:9
 same-length : tie.Need-same-length
 same-length c = search needs
 
--- src/search.rt:19:9
 returns : tie.Need-returns
 returns c = note-full _ _ _ _ _ (c .before .before .before .before .insert .ensures) (c .before .if1 .taken) (c .ended .ensures)
 
--- src/search.rt:21:13
 cast-n : tie.Need-cast-n
 cast-n c = search needs
 
--- src/search.rt:12:1
 same-length-2 : tie.Need-same-length-2
 same-length-2 c = search needs
 
--- src/search.rt:12:1
 returns-2 : tie.Need-returns-2
 returns-2 c = note-inserted _ _ _ _ _ (c .before .before .before .insert .ensures) (c .if1 .left) refl
 

@@ -15,59 +15,45 @@ use Rattle.lister.proofs.search.ended.Reads as ended-reads
 use Rattle.lister.proofs.search.note.Reads as note-reads
 use Rattle.lister.proofs.walk.visit.Reads as visit-reads
 
--- src/search.rt:87:13
 ended-requires : tie.Need-ended-requires
 ended-requires c κs = search needs
 
--- src/search.rt:87:13
 returns : tie.Need-returns
 returns c = step-done _ _ _ _ _ _ (c .before .before .before .before .before .before .before .before .pre .0) _ (c .before .before .before .if1 .taken) (c .before .if2 .taken) (c .ended .ensures)
 
--- src/search.rt:89:9
 advance-requires : tie.Need-advance-requires
 advance-requires c κs = (step-waiting _ _ _ _ _ _ (c .before .before .before .before .before .before .before .before .pre .0) (c .before .before .before .if1 .taken) (c .before .if2 .left), c .before .before .before .before .before .before .before .before .pre .1)
 
--- src/search.rt:89:9
 same-length : tie.Need-same-length
 same-length c = search needs
 
--- src/search.rt:89:9
 returns-2 : tie.Need-returns-2
 returns-2 c = step-back _ _ _ _ _ _ (c .before .before .before .before .before .before .before .before .before .before .before .pre .0) _ _ (c .before .before .before .before .before .before .if1 .taken) (c .before .before .advance .ensures)
 
--- src/search.rt:92:9
 ended-requires-2 : tie.Need-ended-requires-2
 ended-requires-2 c κs = search needs
 
--- src/search.rt:92:9
 returns-3 : tie.Need-returns-3
 returns-3 c = step-short _ _ _ _ _ _ (c .before .before .before .before .before .before .before .before .pre .0) _ (c .before .before .before .if1 .left) (c .before .if3 .taken) (c .ended2 .ensures)
 
--- src/search.rt:95:9
 counted-requires : tie.Need-counted-requires
 counted-requires c κs = search needs
 
--- src/search.rt:97:9
 note-requires : tie.Need-note-requires
 note-requires c κs = let h = c .before .before .before .before .before .before .before .before .before .before .pre .0 in (omega (arith, h .count, ap (λ (r : Run). r .count) (c .before .before .counted .ensures)), h .entries)
 
--- src/search.rt:97:9
 same-length-2 : tie.Need-same-length-2
 same-length-2 c = search needs
 
--- src/search.rt:97:9
 returns-4 : tie.Need-returns-4
 returns-4 c = step-noted _ _ _ _ _ _ (c .before .before .before .before .before .before .before .before .before .before .before .before .before .pre .0) _ _ _ (c .before .before .before .before .before .before .before .before .if1 .left) (c .before .before .before .before .before .before .if3 .left) (c .before .before .before .before .if4 .taken) (c .before .before .before .before .before .counted .ensures) (c .before .before .note .ensures)
 
--- src/search.rt:99:5
 visit-requires : tie.Need-visit-requires
 visit-requires c κs = (step-ready _ _ _ _ _ _ (c .before .before .before .before .before .before .before .before .before .before .pre .0) _ (c .before .before .before .before .before .if1 .left) (c .before .before .counted .ensures), c .before .before .before .before .before .before .before .before .before .before .pre .1, omega (arith, positive _ (c .before .if4 .left), ap (λ (r : Run). r .kind) (c .before .before .counted .ensures)))
 
--- src/search.rt:74:1
 same-length-3 : tie.Need-same-length-3
 same-length-3 c = search needs
 
--- src/search.rt:74:1
 returns-5 : tie.Need-returns-5
 returns-5 c = step-visited _ _ _ _ _ _ (c .before .before .before .before .before .before .before .before .before .before .before .before .before .pre .0) _ _ _ (c .before .before .before .before .before .before .before .before .if1 .left) (c .before .before .before .before .before .before .if3 .left) (positive _ (c .before .before .before .before .if4 .left)) (c .before .before .before .before .before .counted .ensures) (c .before .before .visit .ensures)
 

@@ -16,31 +16,24 @@ Inv-loop image budget abducibles sets₀ work₀ r₀ sets work r = State image 
 abbrev μ-loop : tie.MeasureT-loop
 μ-loop image budget abducibles sets₀ work₀ r₀ sets work r = ahead budget r
 
--- src/search.rt:115:5
 loop-holds : tie.Need-loop-holds Inv-loop μ-loop
 loop-holds c = (goes-on (c .before .before .before .pre .0), refl, refl, refl)
 
--- src/search.rt:116:9
 step-requires : tie.Need-step-requires Inv-loop μ-loop
 step-requires c κs = (still-searching _ _ _ _ _ _ (c .before .before .before .before .loop .inv .0) (c .before .before .if1 .taken), c .before .before .before .before .before .before .before .before .pre .1)
 
--- src/search.rt:115:5
 loop-less : tie.Need-loop-less Inv-loop μ-loop
 loop-less c = c .before .before .before .before .step .ensures .falls
 
--- src/search.rt:115:5
 loop-again : tie.Need-loop-again Inv-loop μ-loop
 loop-again c = (c .before .before .before .before .step .ensures .next, c .before .before .before .before .step .kept .1 .1 .1 .0 ∙ c .before .before .before .before .before .before .before .before .before .loop .inv .1, c .before .before .before .before .step .kept .1 .1 .1 .1 .0 ∙ c .before .before .before .before .before .before .before .before .before .loop .inv .2, c .before .before .before .before .step .ensures .later ∙ c .before .before .before .before .before .before .before .before .before .loop .inv .3)
 
--- src/search.rt:103:1
 same-length : tie.Need-same-length Inv-loop μ-loop
 same-length c = c .before .before .loop .inv .1
 
--- src/search.rt:103:1
 same-length-2 : tie.Need-same-length-2 Inv-loop μ-loop
 same-length-2 c = c .before .before .loop .inv .2
 
--- src/search.rt:103:1
 returns : tie.Need-returns Inv-loop μ-loop
 returns c = record { stopped = stopped-ending _ _ _ _ _ _ (c .before .before .loop .inv .0) (c .if1 .left); later = c .before .before .loop .inv .3 }
 

@@ -9,20 +9,16 @@ use Rattle.lister.proofs.start.goal_cell.Tie as tie
 use Rattle.lister.proofs.start.goal_cell.Reads as reads
 use Rattle.lister.proofs.start.goal_cell.Lts as lts
 
--- src/start.rt:38:9
 returns : tie.Need-returns
 unfolding goalCell
 returns c = sym (choose-true _ _ (eq-eqb _ _ (c .if1 .taken)))
 
--- src/start.rt:43:18
 mul-t4 : tie.Need-mul-t4
 mul-t4 c = search needs
 
--- src/start.rt:43:13
 add-t5 : tie.Need-add-t5
 add-t5 c = search needs
 
--- src/start.rt:33:1
 returns-2 : tie.Need-returns-2
 unfolding goalCell
 returns-2 c = sym (choose-false _ _ (ne-eqb _ _ (c .if1 .left)))

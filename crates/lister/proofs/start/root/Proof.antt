@@ -14,27 +14,21 @@ use Rattle.lister.proofs.frames.push.Reads as push-reads
 use Rattle.lister.proofs.start.goal_cell.Reads as goal-cell-reads
 use Rattle.lister.proofs.start.rules_cell.Reads as rules-cell-reads
 
--- src/start.rt:53:9
 rules-cell-requires : tie.Need-rules-cell-requires
 rules-cell-requires c κs = search needs
 
--- src/start.rt:54:9
 goal-cell-requires : tie.Need-goal-cell-requires
 goal-cell-requires c κs = search needs
 
--- src/start.rt:61:5
 push-requires : tie.Need-push-requires
 push-requires c κs = search needs
 
--- src/start.rt:62:5
 push-requires-2 : tie.Need-push-requires-2
 push-requires-2 c κs = search needs
 
--- src/start.rt:49:1
 same-length : tie.Need-same-length
 same-length c = search needs
 
--- src/start.rt:49:1
 returns : tie.Need-returns
 unfolding grounded
 returns c =

@@ -8,12 +8,10 @@ use Rattle.lister.proofs.start.rules_cell.Tie as tie
 use Rattle.lister.proofs.start.rules_cell.Reads as reads
 use Rattle.lister.proofs.start.rules_cell.Lts as lts
 
--- src/start.rt:17:9
 returns : tie.Need-returns
 unfolding rulesCell
 returns c = sym (choose-true _ _ (eq-eqb _ _ (c .if1 .taken)))
 
--- src/start.rt:13:1
 returns-2 : tie.Need-returns-2
 unfolding rulesCell
 returns-2 c = sym (choose-false _ _ (ne-eqb _ _ (c .if1 .left)))

@@ -13,35 +13,27 @@ use Rattle.lister.proofs.area.link_clauses.Reads as link-clauses-reads
 use Rattle.lister.proofs.area.wipe.Reads as wipe-reads
 use Rattle.lister.proofs.start.root.Reads as root-reads
 
--- src/start.rt:81:5
 wipe-requires : tie.Need-wipe-requires
 wipe-requires c κs = search needs
 
--- src/start.rt:82:9
 field-at-requires : tie.Need-field-at-requires
 field-at-requires c κs = let n = counts _ (c .before .before .before .before .before .before .pre .0) in omega (arith, n .front, n .there, n .place)
 
--- src/start.rt:83:24
 mul-clauses : tie.Need-mul-clauses
 mul-clauses c = search needs
 
--- src/start.rt:83:19
 add-clauses : tie.Need-add-clauses
 add-clauses c = search needs
 
--- src/start.rt:84:14
 cast-at : tie.Need-cast-at
 cast-at c = search needs
 
--- src/start.rt:85:9
 field-at-requires-2 : tie.Need-field-at-requires-2
 field-at-requires-2 c κs = front-there _ (c .before .before .before .before .before .before .before .args .work .now) (c .before .before .before .before .before .before .before .pre .0) (c .before .before .before .before .before .before .before .pre .1) _ 0 (c .field-at .ensures .0)
 
--- src/start.rt:86:53
 add-lay-places : tie.Need-add-lay-places
 add-lay-places c = search needs
 
--- src/start.rt:86:9
 lay-places-requires : tie.Need-lay-places-requires
 lay-places-requires c κs =
     let p = c .before .before .before .before .before .before .before .before .before .pre in (
@@ -49,30 +41,25 @@ lay-places-requires c κs =
       omega (arith, clauses-few _ (c .before .before .before .before .before .before .before .before .before .args .work .now) (p .0) (p .1) _ _ (c .before .before .field-at .ensures .0) (c .before .field-at2 .ensures .0), c .before .before .before .before .before .wipe .kept .0, p .1),
     )
 
--- src/start.rt:87:5
 link-clauses-requires : tie.Need-link-clauses-requires
 link-clauses-requires c κs =
     let p = c .before .before .before .before .before .before .before .before .before .before .before .before .before .pre in
     clauses-placed _ (c .before .before .before .before .before .before .before .before .before .before .before .before .before .args .work .now) (p .0) (p .1) _ _ (c .before .before .before .before .before .before .field-at .ensures .0) (c .before .before .before .before .before .field-at2 .ensures .0) _ _ (c .before .before .before .before .before .before .before .before .before .wipe .ensures) (c .before .before .before .lay-places .ensures .1)
 
--- src/start.rt:88:17
 cast-place : tie.Need-cast-place
 cast-place c = search needs
 
--- src/start.rt:89:9
 field-at-requires-3 : tie.Need-field-at-requires-3
 field-at-requires-3 c κs =
     let p = c .before .before .before .before .before .before .before .before .before .before .before .before .before .before .before .before .pre in
     rules-there _ (c .before .before .before .before .before .before .before .before .before .before .before .before .before .before .before .before .args .work .now) (p .0) (p .1) _ _ (c .before .before .before .before .before .before .before .before .before .field-at .ensures .0) (c .before .before .before .before .before .before .before .before .field-at2 .ensures .0) _ (c .before .before .before .before .before .before .lay-places .ensures .0) .0
 
--- src/start.rt:90:41
 add-lay-places-2 : tie.Need-add-lay-places-2
 add-lay-places-2 c =
     let p = c .before .before .before .before .before .before .before .before .before .before .before .before .before .before .before .before .before .before .pre in
     let there = rules-there _ (c .before .before .before .before .before .before .before .before .before .before .before .before .before .before .before .before .before .before .args .work .now) (p .0) (p .1) _ _ (c .before .before .before .before .before .before .before .before .before .before .before .field-at .ensures .0) (c .before .before .before .before .before .before .before .before .before .before .field-at2 .ensures .0) _ (c .before .before .before .before .before .before .before .before .lay-places .ensures .0) in
     omega (arith, there .0, there .1)
 
--- src/start.rt:90:5
 lay-places-requires-2 : tie.Need-lay-places-requires-2
 lay-places-requires-2 c κs =
     let p = c .before .before .before .before .before .before .before .before .before .before .before .before .before .before .before .before .before .before .pre in (
@@ -80,7 +67,6 @@ lay-places-requires-2 c κs =
       omega (arith, rules-few _ (c .before .before .before .before .before .before .before .before .before .before .before .before .before .before .before .before .before .before .args .work .now) (p .0) (p .1) _ _ (c .before .before .before .before .before .before .before .before .before .before .before .field-at .ensures .0) (c .before .before .before .before .before .before .before .before .before .before .field-at2 .ensures .0) _ (c .before .before .before .before .before .before .before .before .lay-places .ensures .0) _ (c .before .field-at3 .ensures .0), c .before .before .before .before .link-clauses .kept .1 .0, c .before .before .before .before .before .before .before .before .lay-places .kept .1 .0, c .before .before .before .before .before .before .before .before .before .before .before .before .before .before .wipe .kept .0, p .1),
     )
 
--- src/start.rt:91:5
 root-requires : tie.Need-root-requires
 root-requires c κs =
     let p = c .before .before .before .before .before .before .before .before .before .before .before .before .before .before .before .before .before .before .before .before .before .before .pre in (
@@ -88,11 +74,9 @@ root-requires c κs =
       omega (arith, c .before .before .before .lay-places2 .kept .1 .0, c .before .before .before .before .before .before .before .before .link-clauses .kept .1 .0, c .before .before .before .before .before .before .before .before .before .before .before .before .lay-places .kept .1 .0, c .before .before .before .before .before .before .before .before .before .before .before .before .before .before .before .before .before .before .wipe .kept .0, p .1),
     )
 
--- src/start.rt:77:1
 same-length : tie.Need-same-length
 same-length c = c .before .before .root .kept .0 ∙ c .before .before .before .before .before .before .lay-places2 .kept .1 .0 ∙ c .before .before .before .before .before .before .before .before .before .before .before .link-clauses .kept .1 .0 ∙ c .before .before .before .before .before .before .before .before .before .before .before .before .before .before .before .lay-places .kept .1 .0 ∙ c .before .before .before .before .before .before .before .before .before .before .before .before .before .before .before .before .before .before .before .before .before .wipe .kept .0
 
--- src/start.rt:77:1
 returns : tie.Need-returns
 returns c =
     let p = c .before .before .before .before .before .before .before .before .before .before .before .before .before .before .before .before .before .before .before .before .before .before .before .before .before .pre in

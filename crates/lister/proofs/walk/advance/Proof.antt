@@ -12,55 +12,42 @@ use Rattle.lister.proofs.walk.advance.Lts as lts
 use Rattle.lister.proofs.walk.next_clause.Reads as next-clause-reads
 use Rattle.lister.proofs.walk.next_way.Reads as next-way-reads
 
--- src/walk.rt:324:17
 sub-below : tie.Need-sub-below
 sub-below c = search needs
 
--- src/walk.rt:325:25
 cast-at : tie.Need-cast-at
 cast-at c = search needs
 
--- src/walk.rt:325:21
 mul-at : tie.Need-mul-at
 mul-at c = search needs
 
--- src/walk.rt:325:14
 add-at : tie.Need-add-at
 add-at c = search needs
 
--- src/walk.rt:326:13
 add-if1 : tie.Need-add-if1
 add-if1 c = search needs
 
--- src/walk.rt:326:8
 mul-if1 : tie.Need-mul-if1
 mul-if1 c = search needs
 
--- src/walk.rt:326:8
 slice-read-if1 : tie.Need-slice-read-if1
 slice-read-if1 c = search needs
 
--- src/walk.rt:327:9
 next-way-requires : tie.Need-next-way-requires
 next-way-requires c κs = search needs
 
--- src/walk.rt:327:9
 same-length : tie.Need-same-length
 same-length c = search needs
 
--- src/walk.rt:327:9
 returns : tie.Need-returns
 returns c = search needs
 
--- src/walk.rt:329:5
 next-clause-requires : tie.Need-next-clause-requires
 next-clause-requires c κs = let a = c .before .before .before .before .before .before .args in (subst (λ (n : ℕ). Waiting (a .image .now) n (a .work .now) (a .r)) (sym (c .before .before .before .before .before .before .pre .1)) (c .before .before .before .before .before .before .pre .0), positive _ (c .before .if1 .left))
 
--- src/walk.rt:320:1
 same-length-2 : tie.Need-same-length-2
 same-length-2 c = search needs
 
--- src/walk.rt:320:1
 returns-2 : tie.Need-returns-2
 returns-2 c = advanced-at (c .before .before .before .before .before .before .before .before .before .pre .1) (c .before .before .next-clause .ensures)
 

@@ -10,16 +10,13 @@ use Rattle.lister.proofs.walk.after_break.Reads as reads
 use Rattle.lister.proofs.walk.after_break.Lts as lts
 use Rattle.lister.proofs.frames.cell_of.Reads as cell-of-reads
 
--- src/walk.rt:166:9
 cell-of-requires : tie.Need-cell-of-requires
 cell-of-requires c κs = search needs
 
--- src/walk.rt:166:9
 returns : tie.Need-returns
 unfolding restOfBreak
 returns c = c .cell-of .ensures ∙ sym (choose-true _ _ (eq-eqb _ _ (c .before .if1 .taken)))
 
--- src/walk.rt:161:1
 returns-2 : tie.Need-returns-2
 unfolding restOfBreak
 returns-2 c = sym (choose-false _ _ (ne-eqb _ _ (c .if1 .left)))

@@ -10,24 +10,19 @@ use Rattle.lister.proofs.walk.after_rule.Reads as reads
 use Rattle.lister.proofs.walk.after_rule.Lts as lts
 use Rattle.lister.proofs.frames.cell_of.Reads as cell-of-reads
 
--- src/walk.rt:181:8
 add-if1 : tie.Need-add-if1
 add-if1 c = search needs
 
--- src/walk.rt:184:19
 add-t7 : tie.Need-add-t7
 add-t7 c = search needs
 
--- src/walk.rt:182:9
 returns : tie.Need-returns
 unfolding restOfRule
 returns c = sym (choose-true _ _ (lt-ltb _ _ (c .if1 .taken)))
 
--- src/walk.rt:189:5
 cell-of-requires : tie.Need-cell-of-requires
 cell-of-requires c κs = search needs
 
--- src/walk.rt:177:1
 returns-2 : tie.Need-returns-2
 unfolding restOfRule
 returns-2 c = c .cell-of .ensures ∙ sym (choose-false _ _ (le-ltb _ _ (c .before .if1 .left)))

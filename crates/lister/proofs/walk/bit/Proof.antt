@@ -6,19 +6,15 @@ use Rattle.lister.proofs.walk.bit.Tie as tie
 use Rattle.lister.proofs.walk.bit.Reads as reads
 use Rattle.lister.proofs.walk.bit.Lts as lts
 
--- src/walk.rt:98:25
 cast-result : tie.Need-cast-result
 cast-result c = search needs
 
--- src/walk.rt:98:16
 shl-result : tie.Need-shl-result
 shl-result c = search needs
 
--- src/walk.rt:98:9
 returns : tie.Need-returns
 returns c = bit-even (c .before .args .y) (c .before .pre) (c .if1 .taken)
 
--- src/walk.rt:93:1
 returns-2 : tie.Need-returns-2
 returns-2 c = bit-odd (c .before .args .y) (c .if1 .left)
 

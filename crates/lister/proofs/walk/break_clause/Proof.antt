@@ -15,75 +15,57 @@ use Rattle.lister.proofs.frames.push.Reads as push-reads
 use Rattle.lister.proofs.walk.after_break.Reads as after-break-reads
 use Rattle.lister.proofs.walk.idle.Reads as idle-reads
 
--- src/walk.rt:197:18
 cast-clause : tie.Need-cast-clause
 cast-clause c = search needs
 
--- src/walk.rt:198:22
 add-place : tie.Need-add-place
 add-place c = search needs
 
--- src/walk.rt:198:17
 mul-place : tie.Need-mul-place
 mul-place c = search needs
 
--- src/walk.rt:198:17
 slice-read-place : tie.Need-slice-read-place
 slice-read-place c = let p = c .before .before .before .before .pre in omega (arith, break-places _ _ _ _ (p .0) (p .1) .clause, room _ _ _ _ (p .0) .2)
 
--- src/walk.rt:199:21
 add-next : tie.Need-add-next
 add-next c = search needs
 
--- src/walk.rt:199:16
 mul-next : tie.Need-mul-next
 mul-next c = search needs
 
--- src/walk.rt:199:16
 slice-read-next : tie.Need-slice-read-next
 slice-read-next c = let p = c .before .before .before .before .before .pre in omega (arith, break-places _ _ _ _ (p .0) (p .1) .clause, room _ _ _ _ (p .0) .2)
 
--- src/walk.rt:200:14
 cast-at : tie.Need-cast-at
 cast-at c = let p = c .before .before .before .before .before .pre in omega (arith, break-places _ _ _ _ (p .0) (p .1) .stop)
 
--- src/walk.rt:201:16
 add-stop : tie.Need-add-stop
 add-stop c = let p = c .before .before .before .before .before .pre in omega (arith, break-places _ _ _ _ (p .0) (p .1) .stop)
 
--- src/walk.rt:201:28
 field-at-requires : tie.Need-field-at-requires
 field-at-requires c κs = let p = c .before .before .before .before .before .pre in omega (arith, break-places _ _ _ _ (p .0) (p .1) .place)
 
--- src/walk.rt:201:16
 add-stop-2 : tie.Need-add-stop-2
 add-stop-2 c = let p = c .before .before .before .before .before .before .pre in omega (arith, break-places _ _ _ _ (p .0) (p .1) .stop, c .field-at .ensures .0)
 
--- src/walk.rt:202:9
 after-break-requires : tie.Need-after-break-requires
 after-break-requires c κs = let p = c .before .before .before .before .before .before .before .pre in (break-places _ _ _ _ (p .0) (p .1) .some, break-places _ _ _ _ (p .0) (p .1) .linked)
 
--- src/walk.rt:203:40
 add-push : tie.Need-add-push
 add-push c = let p = c .before .before .before .before .before .before .before .before .before .pre in omega (arith, break-places _ _ _ _ (p .0) (p .1) .place, short _ _ _ _ (p .0))
 
--- src/walk.rt:203:5
 push-requires : tie.Need-push-requires
 push-requires c κs = search needs
 
--- src/walk.rt:204:13
 add-idle : tie.Need-add-idle
 add-idle c = search needs
 
--- src/walk.rt:204:5
 idle-requires : tie.Need-idle-requires
 idle-requires c κs = search needs
 
--- src/walk.rt:193:1
 same-length : tie.Need-same-length
 same-length c = search needs
 
--- src/walk.rt:193:1
 returns : tie.Need-returns
 returns c =
     let p = c .before .before .before .before .before .before .before .before .before .before .before .before .before .before .pre in

@@ -15,83 +15,63 @@ use Rattle.lister.proofs.frames.push.Reads as push-reads
 use Rattle.lister.proofs.walk.after_rule.Reads as after-rule-reads
 use Rattle.lister.proofs.walk.idle.Reads as idle-reads
 
--- src/walk.rt:212:16
 cast-rule : tie.Need-cast-rule
 cast-rule c = search needs
 
--- src/walk.rt:213:22
 add-place : tie.Need-add-place
 add-place c = search needs
 
--- src/walk.rt:213:17
 mul-place : tie.Need-mul-place
 mul-place c = search needs
 
--- src/walk.rt:213:17
 slice-read-place : tie.Need-slice-read-place
 slice-read-place c = let p = c .before .before .before .before .pre in omega (arith, keep-places _ _ _ _ (p .0) (p .1) .rule, room _ _ _ _ (p .0) .2)
 
--- src/walk.rt:214:14
 cast-at : tie.Need-cast-at
 cast-at c = let p = c .before .before .before .before .pre in omega (arith, keep-places _ _ _ _ (p .0) (p .1) .stop)
 
--- src/walk.rt:215:16
 add-turn : tie.Need-add-turn
 add-turn c = let p = c .before .before .before .before .pre in omega (arith, keep-places _ _ _ _ (p .0) (p .1) .turn)
 
--- src/walk.rt:215:48
 add-field-at : tie.Need-add-field-at
 add-field-at c = let p = c .before .before .before .before .pre in omega (arith, keep-places _ _ _ _ (p .0) (p .1) .stop)
 
--- src/walk.rt:215:32
 field-at-requires : tie.Need-field-at-requires
 field-at-requires c κs = let p = c .before .before .before .before .pre in omega (arith, keep-places _ _ _ _ (p .0) (p .1) .place)
 
--- src/walk.rt:215:28
 mul-turn : tie.Need-mul-turn
 mul-turn c = search needs
 
--- src/walk.rt:215:16
 add-turn-2 : tie.Need-add-turn-2
 add-turn-2 c = let p = c .before .before .before .before .before .pre in omega (arith, keep-places _ _ _ _ (p .0) (p .1) .turn, c .field-at .ensures .0)
 
--- src/walk.rt:216:16
 add-stop : tie.Need-add-stop
 add-stop c = let p = c .before .before .before .before .before .pre in omega (arith, keep-places _ _ _ _ (p .0) (p .1) .stop)
 
--- src/walk.rt:216:28
 field-at-requires-2 : tie.Need-field-at-requires-2
 field-at-requires-2 c κs = let p = c .before .before .before .before .before .pre in omega (arith, keep-places _ _ _ _ (p .0) (p .1) .place)
 
--- src/walk.rt:216:16
 add-stop-2 : tie.Need-add-stop-2
 add-stop-2 c = let p = c .before .before .before .before .before .before .pre in omega (arith, keep-places _ _ _ _ (p .0) (p .1) .stop, c .field-at2 .ensures .0)
 
--- src/walk.rt:217:9
 after-rule-requires : tie.Need-after-rule-requires
 after-rule-requires c κs = let p = c .before .before .before .before .before .before .before .pre in let k = keep-places _ _ _ _ (p .0) (p .1) in (k .rule, k .some, k .linked)
 
--- src/walk.rt:218:40
 add-push : tie.Need-add-push
 add-push c = let p = c .before .before .before .before .before .before .before .before .before .pre in omega (arith, keep-places _ _ _ _ (p .0) (p .1) .place, short _ _ _ _ (p .0))
 
--- src/walk.rt:218:5
 push-requires : tie.Need-push-requires
 push-requires c κs = search needs
 
--- src/walk.rt:219:13
 add-idle : tie.Need-add-idle
 add-idle c = search needs
 
--- src/walk.rt:219:5
 idle-requires : tie.Need-idle-requires
 idle-requires c κs = search needs
 
--- src/walk.rt:208:1
 same-length : tie.Need-same-length
 same-length c = search needs
 
--- src/walk.rt:208:1
 returns : tie.Need-returns
 returns c =
     let p = c .before .before .before .before .before .before .before .before .before .before .before .before .before .before .pre in

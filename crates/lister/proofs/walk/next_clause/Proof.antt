@@ -18,79 +18,60 @@ use Rattle.lister.proofs.walk.bit.Reads as bit-reads
 use Rattle.lister.proofs.walk.due.Reads as due-reads
 use Rattle.lister.proofs.walk.idle.Reads as idle-reads
 
--- src/walk.rt:242:17
 sub-below : tie.Need-sub-below
 sub-below c = search needs
 
--- src/walk.rt:243:25
 cast-at : tie.Need-cast-at
 cast-at c = search needs
 
--- src/walk.rt:243:21
 mul-at : tie.Need-mul-at
 mul-at c = search needs
 
--- src/walk.rt:243:14
 add-at : tie.Need-add-at
 add-at c = search needs
 
--- src/walk.rt:244:23
 add-cursor : tie.Need-add-cursor
 add-cursor c = search needs
 
--- src/walk.rt:244:18
 mul-cursor : tie.Need-mul-cursor
 mul-cursor c = search needs
 
--- src/walk.rt:244:18
 slice-read-cursor : tie.Need-slice-read-cursor
 slice-read-cursor c = search needs
 
--- src/walk.rt:246:22
 add-y : tie.Need-add-y
 add-y c = search needs
 
--- src/walk.rt:246:17
 mul-y : tie.Need-mul-y
 mul-y c = search needs
 
--- src/walk.rt:246:17
 slice-read-y : tie.Need-slice-read-y
 slice-read-y c = search needs
 
--- src/walk.rt:246:17
 sub-y : tie.Need-sub-y
 sub-y c = search needs
 
--- src/walk.rt:248:20
 cast-mark : tie.Need-cast-mark
 cast-mark c = let p = c .before .before .before .before .before .before .pre in omega (arith, unmarks _ _ _ _ (p .0) _ refl (word (c .before .before .before .before .before .before .args .work .now) (c .before .before .before .before .before .before .args .r .top - 1) 4 - 1) (omega arith) .atom)
 
--- src/walk.rt:249:9
 mul-work : tie.Need-mul-work
 mul-work c = let p = c .before .before .before .before .before .before .pre in omega (arith, unmarks _ _ _ _ (p .0) _ refl (word (c .before .before .before .before .before .before .args .work .now) (c .before .before .before .before .before .before .args .r .top - 1) 4 - 1) (omega arith) .atom)
 
--- src/walk.rt:249:9
 slice-write-work : tie.Need-slice-write-work
 slice-write-work c = let p = c .before .before .before .before .before .before .pre in omega (arith, unmarks _ _ _ _ (p .0) _ refl (word (c .before .before .before .before .before .before .args .work .now) (c .before .before .before .before .before .before .args .r .top - 1) 4 - 1) (omega arith) .atom, frame-low _ _ _ _ (p .0) _ refl .1)
 
--- src/walk.rt:251:43
 bit-requires : tie.Need-bit-requires
 bit-requires c κs = let p = c .before .before .before .before .before .before .before .pre in unmarks _ _ _ _ (p .0) _ refl (word (c .before .before .before .before .before .before .before .args .work .now) (c .before .before .before .before .before .before .before .args .r .top - 1) 4 - 1) (omega arith) .small (c .if2 .taken)
 
--- src/walk.rt:251:35
 sub-idle : tie.Need-sub-idle
 sub-idle c = let p = c .before .before .before .before .before .before .before .before .before .pre in omega (arith, unmarks _ _ _ _ (p .0) _ refl (word (c .before .before .before .before .before .before .before .before .before .args .work .now) (c .before .before .before .before .before .before .before .before .before .args .r .top - 1) 4 - 1) (omega arith) .bit (c .before .before .if2 .taken), c .before .bit .ensures)
 
--- src/walk.rt:251:13
 idle-requires : tie.Need-idle-requires
 idle-requires c κs = search needs
 
--- src/walk.rt:251:13
 same-length : tie.Need-same-length
 same-length c = search needs
 
--- src/walk.rt:251:13
 returns : tie.Need-returns
 returns c =
     let p = c .before .before .before .before .before .before .before .before .before .before .pre in
@@ -98,15 +79,12 @@ returns c =
     unmark-advanced _ _ _ _ (p .0) _ refl (word (a .work .now) (a .r .top - 1) 4 - 1) (a .r .set - c .before .before .bit .result) _ _ (omega arith) (c .before .before .before .before .before .if1 .taken)
     (λ h. ap (λ (n : ℕ). a .r .set - n) (c .before .before .bit .ensures)) (λ h. absurd (omega (arith, h, c .before .before .before .if2 .taken))) refl (c .idle .ensures)
 
--- src/walk.rt:253:9
 idle-requires-2 : tie.Need-idle-requires-2
 idle-requires-2 c κs = search needs
 
--- src/walk.rt:253:9
 same-length-2 : tie.Need-same-length-2
 same-length-2 c = search needs
 
--- src/walk.rt:253:9
 returns-2 : tie.Need-returns-2
 returns-2 c =
     let p = c .before .before .before .before .before .before .before .before .pre in
@@ -114,67 +92,51 @@ returns-2 c =
     unmark-advanced _ _ _ _ (p .0) _ refl (word (a .work .now) (a .r .top - 1) 4 - 1) (a .r .set) _ _ (omega arith) (c .before .before .before .if1 .taken)
     (λ h. absurd (omega (arith, h, c .before .if2 .left))) (λ h. refl) refl (c .idle2 .ensures)
 
--- src/walk.rt:255:18
 cast-clause : tie.Need-cast-clause
 cast-clause c = let p = c .before .before .before .before .before .pre in omega (arith, clausal _ _ _ _ (p .0) _ refl (λ e. omega (arith, e, p .1)) (c .if1 .left) .most)
 
--- src/walk.rt:256:21
 add-next : tie.Need-add-next
 add-next c = let p = c .before .before .before .before .before .pre in omega (arith, clausal _ _ _ _ (p .0) _ refl (λ e. omega (arith, e, p .1)) (c .if1 .left) .most)
 
--- src/walk.rt:256:16
 mul-next : tie.Need-mul-next
 mul-next c = let p = c .before .before .before .before .before .pre in omega (arith, clausal _ _ _ _ (p .0) _ refl (λ e. omega (arith, e, p .1)) (c .if1 .left) .most)
 
--- src/walk.rt:256:16
 slice-read-next : tie.Need-slice-read-next
 slice-read-next c = let p = c .before .before .before .before .before .before .pre in omega (arith, clausal _ _ _ _ (p .0) _ refl (λ e. omega (arith, e, p .1)) (c .before .if1 .left) .most, frame-low _ _ _ _ (p .0) _ refl .1)
 
--- src/walk.rt:257:22
 add-place : tie.Need-add-place
 add-place c = let p = c .before .before .before .before .before .before .pre in omega (arith, clausal _ _ _ _ (p .0) _ refl (λ e. omega (arith, e, p .1)) (c .before .if1 .left) .most)
 
--- src/walk.rt:257:17
 mul-place : tie.Need-mul-place
 mul-place c = let p = c .before .before .before .before .before .before .pre in omega (arith, clausal _ _ _ _ (p .0) _ refl (λ e. omega (arith, e, p .1)) (c .before .if1 .left) .most)
 
--- src/walk.rt:257:17
 slice-read-place : tie.Need-slice-read-place
 slice-read-place c = let p = c .before .before .before .before .before .before .before .pre in omega (arith, clausal _ _ _ _ (p .0) _ refl (λ e. omega (arith, e, p .1)) (c .before .before .if1 .left) .most, frame-low _ _ _ _ (p .0) _ refl .1)
 
--- src/walk.rt:258:16
 cast-body : tie.Need-cast-body
 cast-body c = let p = c .before .before .before .before .before .before .before .pre in omega (arith, clausal _ _ _ _ (p .0) _ refl (λ e. omega (arith, e, p .1)) (c .before .before .if1 .left) .stop)
 
--- src/walk.rt:259:9
 field-at-requires : tie.Need-field-at-requires
 field-at-requires c κs = let p = c .before .before .before .before .before .before .before .pre in omega (arith, clausal _ _ _ _ (p .0) _ refl (λ e. omega (arith, e, p .1)) (c .before .before .if1 .left) .place)
 
--- src/walk.rt:261:13
 cell-of-requires : tie.Need-cell-of-requires
 cell-of-requires c κs = search needs
 
--- src/walk.rt:262:14
 add-work : tie.Need-add-work
 add-work c = search needs
 
--- src/walk.rt:262:9
 mul-work-2 : tie.Need-mul-work-2
 mul-work-2 c = search needs
 
--- src/walk.rt:262:9
 slice-write-work-2 : tie.Need-slice-write-work-2
 slice-write-work-2 c = search needs
 
--- src/walk.rt:263:9
 due-requires : tie.Need-due-requires
 due-requires c κs = search needs
 
--- src/walk.rt:263:9
 same-length-3 : tie.Need-same-length-3
 same-length-3 c = search needs
 
--- src/walk.rt:263:9
 returns-3 : tie.Need-returns-3
 returns-3 c =
     let p = c .before .before .before .before .before .before .before .before .before .before .before .before .pre in
@@ -183,39 +145,30 @@ returns-3 c =
     clause-advanced _ _ _ _ (p .0) _ refl place (c .before .before .before .before .field-at .result) (c .before .cell-of .result) _ _ (λ e. omega (arith, e, p .1)) (c .before .before .before .before .before .before .before .if1 .left) refl (c .before .before .before .before .field-at .ensures .0)
     (c .before .cell-of .ensures ∙ sym (choose-true _ _ (eq-eqb _ _ (c .before .before .before .if3 .taken)))) refl (c .due .ensures)
 
--- src/walk.rt:265:10
 add-work-2 : tie.Need-add-work-2
 add-work-2 c = search needs
 
--- src/walk.rt:265:5
 mul-work-3 : tie.Need-mul-work-3
 mul-work-3 c = search needs
 
--- src/walk.rt:265:5
 slice-write-work-3 : tie.Need-slice-write-work-3
 slice-write-work-3 c = search needs
 
--- src/walk.rt:270:19
 add-t20 : tie.Need-add-t20
 add-t20 c = let p = c .before .before .before .before .before .before .before .before .before .pre in omega (arith, clausal _ _ _ _ (p .0) _ refl (λ e. omega (arith, e, p .1)) (c .before .before .before .before .if1 .left) .place, image-short _ _ _ _ (p .0) _ refl)
 
--- src/walk.rt:271:17
 add-t38 : tie.Need-add-t38
 add-t38 c = let p = c .before .before .before .before .before .before .before .before .before .pre in omega (arith, clausal _ _ _ _ (p .0) _ refl (λ e. omega (arith, e, p .1)) (c .before .before .before .before .if1 .left) .stop)
 
--- src/walk.rt:271:17
 add-t39 : tie.Need-add-t39
 add-t39 c = let p = c .before .before .before .before .before .before .before .before .before .pre in omega (arith, clausal _ _ _ _ (p .0) _ refl (λ e. omega (arith, e, p .1)) (c .before .before .before .before .if1 .left) .stop, c .before .field-at .ensures .0)
 
--- src/walk.rt:266:5
 due-requires-2 : tie.Need-due-requires-2
 due-requires-2 c κs = search needs
 
--- src/walk.rt:238:1
 same-length-4 : tie.Need-same-length-4
 same-length-4 c = search needs
 
--- src/walk.rt:238:1
 returns-4 : tie.Need-returns-4
 returns-4 c =
     let p = c .before .before .before .before .before .before .before .before .before .before .pre in

@@ -13,146 +13,111 @@ use Rattle.book.proofs.fields.field_at.Reads as field-at-reads
 use Rattle.lister.proofs.walk.due.Reads as due-reads
 use Rattle.lister.proofs.walk.idle.Reads as idle-reads
 
--- src/walk.rt:284:17
 sub-below : tie.Need-sub-below
 sub-below c = search needs
 
--- src/walk.rt:285:25
 cast-at : tie.Need-cast-at
 cast-at c = search needs
 
--- src/walk.rt:285:21
 mul-at : tie.Need-mul-at
 mul-at c = search needs
 
--- src/walk.rt:285:14
 add-at : tie.Need-add-at
 add-at c = search needs
 
--- src/walk.rt:286:23
 add-cursor : tie.Need-add-cursor
 add-cursor c = search needs
 
--- src/walk.rt:286:18
 mul-cursor : tie.Need-mul-cursor
 mul-cursor c = search needs
 
--- src/walk.rt:286:18
 slice-read-cursor : tie.Need-slice-read-cursor
 slice-read-cursor c = search needs
 
--- src/walk.rt:287:22
 add-if1 : tie.Need-add-if1
 add-if1 c = search needs
 
--- src/walk.rt:287:17
 mul-if1 : tie.Need-mul-if1
 mul-if1 c = search needs
 
--- src/walk.rt:287:17
 slice-read-if1 : tie.Need-slice-read-if1
 slice-read-if1 c = search needs
 
--- src/walk.rt:288:24
 add-work : tie.Need-add-work
 add-work c = let p = c .before .before .before .before .before .before .pre in omega (arith, literal-there _ _ _ _ (p .0) _ refl (p .1) (c .if1 .taken), image-short _ _ _ _ (p .0) _ refl)
 
--- src/walk.rt:288:14
 add-work-2 : tie.Need-add-work-2
 add-work-2 c = search needs
 
--- src/walk.rt:288:9
 mul-work : tie.Need-mul-work
 mul-work c = search needs
 
--- src/walk.rt:288:9
 slice-write-work : tie.Need-slice-write-work
 slice-write-work c = search needs
 
--- src/walk.rt:294:21
 add-t15 : tie.Need-add-t15
 add-t15 c = let p = c .before .before .before .before .before .before .pre in omega (arith, literal-there _ _ _ _ (p .0) _ refl (p .1) (c .if1 .taken), image-short _ _ _ _ (p .0) _ refl)
 
--- src/walk.rt:289:9
 due-requires : tie.Need-due-requires
 due-requires c κs = search needs
 
--- src/walk.rt:289:9
 same-length : tie.Need-same-length
 same-length c = search needs
 
--- src/walk.rt:289:9
 returns : tie.Need-returns
 returns c = let p = c .before .before .before .before .before .before .before .pre in literal-advanced _ _ _ _ (p .0) _ refl (p .1) _ _ (c .before .if1 .taken) refl (c .due .ensures)
 
--- src/walk.rt:301:22
 add-if2 : tie.Need-add-if2
 add-if2 c = search needs
 
--- src/walk.rt:301:17
 mul-if2 : tie.Need-mul-if2
 mul-if2 c = search needs
 
--- src/walk.rt:301:17
 slice-read-if2 : tie.Need-slice-read-if2
 slice-read-if2 c = search needs
 
--- src/walk.rt:302:19
 cast-way : tie.Need-cast-way
 cast-way c = let p = c .before .before .before .before .before .before .before .before .pre in omega (arith, way-there _ _ _ _ (p .0) _ refl (p .1) (c .before .before .if1 .left) (c .if2 .taken), image-short _ _ _ _ (p .0) _ refl)
 
--- src/walk.rt:303:19
 add-end : tie.Need-add-end
 add-end c = let p = c .before .before .before .before .before .before .before .before .pre in omega (arith, way-there _ _ _ _ (p .0) _ refl (p .1) (c .before .before .if1 .left) (c .if2 .taken), image-short _ _ _ _ (p .0) _ refl)
 
--- src/walk.rt:303:36
 field-at-requires : tie.Need-field-at-requires
 field-at-requires c κs = let p = c .before .before .before .before .before .before .before .before .pre in omega (arith, way-there _ _ _ _ (p .0) _ refl (p .1) (c .before .before .if1 .left) (c .if2 .taken))
 
--- src/walk.rt:303:32
 mul-end : tie.Need-mul-end
 mul-end c = search needs
 
--- src/walk.rt:303:19
 add-end-2 : tie.Need-add-end-2
 add-end-2 c = let p = c .before .before .before .before .before .before .before .before .before .pre in omega (arith, way-there _ _ _ _ (p .0) _ refl (p .1) (c .before .before .before .if1 .left) (c .before .if2 .taken), image-short _ _ _ _ (p .0) _ refl, c .field-at .ensures .0)
 
--- src/walk.rt:304:14
 add-work-3 : tie.Need-add-work-3
 add-work-3 c = search needs
 
--- src/walk.rt:304:9
 mul-work-2 : tie.Need-mul-work-2
 mul-work-2 c = search needs
 
--- src/walk.rt:304:9
 slice-write-work-2 : tie.Need-slice-write-work-2
 slice-write-work-2 c = search needs
 
--- src/walk.rt:309:23
 add-t21 : tie.Need-add-t21
 add-t21 c = let p = c .before .before .before .before .before .before .before .before .before .pre in omega (arith, way-there _ _ _ _ (p .0) _ refl (p .1) (c .before .before .before .if1 .left) (c .before .if2 .taken), image-short _ _ _ _ (p .0) _ refl)
 
--- src/walk.rt:305:9
 due-requires-2 : tie.Need-due-requires-2
 due-requires-2 c κs = search needs
 
--- src/walk.rt:305:9
 same-length-2 : tie.Need-same-length-2
 same-length-2 c = search needs
 
--- src/walk.rt:305:9
 returns-2 : tie.Need-returns-2
 returns-2 c =
     let p = c .before .before .before .before .before .before .before .before .before .before .pre in
     let a = c .before .before .before .before .before .before .before .before .before .before .args in
     way-advanced _ _ _ _ (p .0) _ refl (p .1) _ _ _ (c .before .before .before .before .if1 .left) (c .before .before .if2 .taken) (ap (λ (n : ℕ). word (a .work .now) (a .r .top - 1) 5 + 2 + 2 * n) (c .before .field-at .ensures .0)) refl (c .due2 .ensures)
 
--- src/walk.rt:317:5
 idle-requires : tie.Need-idle-requires
 idle-requires c κs = search needs
 
--- src/walk.rt:280:1
 returns-3 : tie.Need-returns-3
 returns-3 c = let p = c .before .before .before .before .before .before .before .before .before .pre in none-advanced _ _ _ _ (p .0) _ refl (p .1) _ (c .before .before .before .if1 .left) (c .before .if2 .left) (c .idle .ensures)
 

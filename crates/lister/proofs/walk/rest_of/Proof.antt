@@ -10,24 +10,19 @@ use Rattle.lister.proofs.walk.rest_of.Reads as reads
 use Rattle.lister.proofs.walk.rest_of.Lts as lts
 use Rattle.lister.proofs.frames.cell_of.Reads as cell-of-reads
 
--- src/walk.rt:73:8
 add-if1 : tie.Need-add-if1
 add-if1 c = search needs
 
--- src/walk.rt:76:19
 add-t8 : tie.Need-add-t8
 add-t8 c = search needs
 
--- src/walk.rt:74:9
 returns : tie.Need-returns
 unfolding restOf
 returns c = sym (choose-true _ _ (lt-ltb _ _ (c .if1 .taken)))
 
--- src/walk.rt:81:5
 cell-of-requires : tie.Need-cell-of-requires
 cell-of-requires c κs = search needs
 
--- src/walk.rt:66:1
 returns-2 : tie.Need-returns-2
 unfolding restOf
 returns-2 c = c .cell-of .ensures ∙ sym (choose-false _ _ (le-ltb _ _ (c .before .if1 .left)))

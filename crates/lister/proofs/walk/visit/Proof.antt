@@ -13,47 +13,36 @@ use Rattle.lister.proofs.walk.keep_rule.Reads as keep-rule-reads
 use Rattle.lister.proofs.walk.next_way.Reads as next-way-reads
 use Rattle.lister.proofs.walk.want.Reads as want-reads
 
--- src/walk.rt:228:9
 want-requires : tie.Need-want-requires
 want-requires c κs = let a = c .before .before .before .before .args in (subst (λ (n : ℕ). Ready (a .image .now) n (a .work .now) (a .r)) (sym (c .before .before .before .before .pre .1)) (c .before .before .before .before .pre .0), c .before .before .before .before .pre .2, c .before .if1 .taken)
 
--- src/walk.rt:228:9
 same-length : tie.Need-same-length
 same-length c = search needs
 
--- src/walk.rt:228:9
 returns : tie.Need-returns
 returns c = visited-at (c .before .before .before .before .before .before .before .pre .1) (c .before .before .want .ensures)
 
--- src/walk.rt:231:13
 break-clause-requires : tie.Need-break-clause-requires
 break-clause-requires c κs = search needs
 
--- src/walk.rt:232:9
 next-way-requires : tie.Need-next-way-requires
 next-way-requires c κs = (opened-waiting _ _ _ _ _ _ (c .before .before .before .before .before .before .before .before .before .pre .0) (c .before .before .before .break-clause .ensures), c .before .before .before .break-clause .ensures .unmarked)
 
--- src/walk.rt:232:9
 same-length-2 : tie.Need-same-length-2
 same-length-2 c = search needs
 
--- src/walk.rt:232:9
 returns-2 : tie.Need-returns-2
 returns-2 c = opened-advanced (c .before .before .before .before .before .before .break-clause .ensures) (c .before .before .next-way .ensures)
 
--- src/walk.rt:234:9
 keep-rule-requires : tie.Need-keep-rule-requires
 keep-rule-requires c κs = search needs
 
--- src/walk.rt:235:5
 next-way-requires-2 : tie.Need-next-way-requires-2
 next-way-requires-2 c κs = (opened-waiting _ _ _ _ _ _ (c .before .before .before .before .before .before .before .before .before .pre .0) (c .before .before .before .keep-rule .ensures), c .before .before .before .keep-rule .ensures .unmarked)
 
--- src/walk.rt:222:1
 same-length-3 : tie.Need-same-length-3
 same-length-3 c = search needs
 
--- src/walk.rt:222:1
 returns-3 : tie.Need-returns-3
 returns-3 c = opened-advanced (c .before .before .before .before .before .before .keep-rule .ensures) (c .before .before .next-way2 .ensures)
 

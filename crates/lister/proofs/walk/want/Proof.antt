@@ -16,189 +16,150 @@ use Rattle.lister.proofs.walk.idle.Reads as idle-reads
 use Rattle.lister.proofs.walk.rest_of.Reads as rest-of-reads
 use Rattle.lister.proofs.walk.wanted.Reads as wanted-reads
 
--- src/walk.rt:119:16
 cast-from : tie.Need-cast-from
 cast-from c = search needs
 
--- src/walk.rt:120:28
 field-at-requires : tie.Need-field-at-requires
 field-at-requires c κs = want-there _ _ _ _ (c .before .before .before .pre .0) (c .before .before .before .pre .1) (c .before .before .before .pre .2)
 
--- src/walk.rt:120:9
 wanted-requires : tie.Need-wanted-requires
 wanted-requires c κs = search needs
 
--- src/walk.rt:122:17
 cast-place : tie.Need-cast-place
 cast-place c = search needs
 
--- src/walk.rt:123:16
 mul-mark : tie.Need-mul-mark
 mul-mark c = search needs
 
--- src/walk.rt:123:16
 slice-read-mark : tie.Need-slice-read-mark
 slice-read-mark c =
     let p = c .before .before .before .before .before .before .pre in
     omega (arith, want-atom _ _ _ _ (p .0) (p .1) (p .2) (c .before .wanted .result) (c .before .wanted .ensures ∙ ap (wantedOf (c .before .before .before .before .before .before .args .r .kind)) (c .before .before .field-at .ensures .0)), room _ _ _ _ (p .0) .2)
 
--- src/walk.rt:125:16
 add-if1 : tie.Need-add-if1
 add-if1 c = search needs
 
--- src/walk.rt:126:23
 rest-of-requires : tie.Need-rest-of-requires
 rest-of-requires c κs = let p = c .before .before .before .before .before .before .before .before .pre in want-link _ _ _ _ (p .0) (p .1) (p .2)
 
--- src/walk.rt:126:9
 due-requires : tie.Need-due-requires
 due-requires c κs = search needs
 
--- src/walk.rt:126:9
 same-length : tie.Need-same-length
 same-length c = search needs
 
--- src/walk.rt:126:9
 returns : tie.Need-returns
 returns c =
     let p = c .before .before .before .before .before .before .before .before .before .before .pre in
     so-visited _ _ _ _ (p .0) (p .1) (p .2) (c .before .before .before .before .before .wanted .result) (c .before .before .before .before .before .wanted .ensures ∙ ap (wantedOf (c .before .before .before .before .before .before .before .before .before .before .args .r .kind)) (c .before .before .before .before .before .before .field-at .ensures .0))
     (c .before .rest-of .result) _ (c .before .rest-of .ensures) (c .before .before .before .if1 .taken) (c .due .ensures)
 
--- src/walk.rt:129:9
 idle-requires : tie.Need-idle-requires
 idle-requires c κs = search needs
 
--- src/walk.rt:129:9
 returns-2 : tie.Need-returns-2
 returns-2 c =
     let p = c .before .before .before .before .before .before .before .before .before .pre in
     refused-visited _ _ _ _ (p .0) (p .1) (p .2) (c .before .before .before .before .wanted .result) (c .before .before .before .before .wanted .ensures ∙ ap (wantedOf (c .before .before .before .before .before .before .before .before .before .args .r .kind)) (c .before .before .before .before .before .field-at .ensures .0))
     _ (c .before .if2 .taken) (c .before .before .if1 .left) (c .idle .ensures)
 
--- src/walk.rt:131:9
 rest-of-requires-2 : tie.Need-rest-of-requires-2
 rest-of-requires-2 c κs = let p = c .before .before .before .before .before .before .before .before .before .pre in want-link _ _ _ _ (p .0) (p .1) (p .2)
 
--- src/walk.rt:133:9
 enter-requires : tie.Need-enter-requires
 enter-requires c κs =
     let p = c .before .before .before .before .before .before .before .before .before .before .before .before .pre in
     (want-atom _ _ _ _ (p .0) (p .1) (p .2) (c .before .before .before .before .before .before .before .wanted .result) (c .before .before .before .before .before .before .before .wanted .ensures ∙ ap (wantedOf (c .before .before .before .before .before .before .before .before .before .before .before .before .args .r .kind)) (c .before .before .before .before .before .before .before .before .field-at .ensures .0)), room _ _ _ _ (p .0) .1)
 
--- src/walk.rt:134:29
 add-due : tie.Need-add-due
 add-due c = search needs
 
--- src/walk.rt:134:46
 bit-requires : tie.Need-bit-requires
 bit-requires c κs =
     let p = c .before .before .before .before .before .before .before .before .before .before .before .before .before .before .before .pre in
     takes-fits _ _ _ _ (p .0) (p .1) (p .2) (c .before .before .before .before .before .before .before .before .before .before .wanted .result) (c .before .before .before .before .before .before .before .before .before .before .wanted .ensures ∙ ap (wantedOf (c .before .before .before .before .before .before .before .before .before .before .before .before .before .before .before .args .r .kind)) (c .before .before .before .before .before .before .before .before .before .before .before .field-at .ensures .0)) (c .before .before .before .before .before .before .before .if2 .left) (c .before .before .before .before .if3 .taken) .0
 
--- src/walk.rt:134:38
 add-due-2 : tie.Need-add-due-2
 add-due-2 c =
     let p = c .before .before .before .before .before .before .before .before .before .before .before .before .before .before .before .before .before .pre in
     let fits = takes-fits _ _ _ _ (p .0) (p .1) (p .2) (c .before .before .before .before .before .before .before .before .before .before .before .before .wanted .result) (c .before .before .before .before .before .before .before .before .before .before .before .before .wanted .ensures ∙ ap (wantedOf (c .before .before .before .before .before .before .before .before .before .before .before .before .before .before .before .before .before .args .r .kind)) (c .before .before .before .before .before .before .before .before .before .before .before .before .before .field-at .ensures .0)) (c .before .before .before .before .before .before .before .before .before .if2 .left) (c .before .before .before .before .before .before .if3 .taken) .1 in
     omega (arith, fits, c .before .bit .ensures)
 
--- src/walk.rt:134:9
 due-requires-2 : tie.Need-due-requires-2
 due-requires-2 c κs = search needs
 
--- src/walk.rt:134:9
 same-length-2 : tie.Need-same-length-2
 same-length-2 c = search needs
 
--- src/walk.rt:134:9
 returns-3 : tie.Need-returns-3
 returns-3 c =
     let p = c .before .before .before .before .before .before .before .before .before .before .before .before .before .before .before .before .before .before .pre in
     takes-visited _ _ _ _ (p .0) (p .1) (p .2) (c .before .before .before .before .before .before .before .before .before .before .before .before .before .wanted .result) (c .before .before .before .before .before .before .before .before .before .before .before .before .before .wanted .ensures ∙ ap (wantedOf (c .before .before .before .before .before .before .before .before .before .before .before .before .before .before .before .before .before .before .args .r .kind)) (c .before .before .before .before .before .before .before .before .before .before .before .before .before .before .field-at .ensures .0))
     (c .before .before .before .before .before .before .before .before .rest-of2 .result) (c .before .before .before .before .before .before .before .before .rest-of2 .ensures) (c .before .before .before .before .before .before .before .before .before .before .if2 .left) _ 0 (c .before .before .before .before .before .enter .ensures) _ (c .before .before .bit .result) refl (c .before .before .before .before .before .before .before .if3 .taken) (c .before .before .bit .ensures) (c .due2 .ensures)
 
--- src/walk.rt:136:22
 add-first : tie.Need-add-first
 add-first c = search needs
 
--- src/walk.rt:136:17
 mul-first : tie.Need-mul-first
 mul-first c = search needs
 
--- src/walk.rt:136:17
 slice-read-first : tie.Need-slice-read-first
 slice-read-first c =
     let p = c .before .before .before .before .before .before .before .before .before .before .before .before .pre in
     omega (arith, want-atom _ _ _ _ (p .0) (p .1) (p .2) (c .before .before .before .before .before .before .before .wanted .result) (c .before .before .before .before .before .before .before .wanted .ensures ∙ ap (wantedOf (c .before .before .before .before .before .before .before .before .before .before .before .before .args .r .kind)) (c .before .before .before .before .before .before .before .before .field-at .ensures .0)), room _ _ _ _ (p .0) .2)
 
--- src/walk.rt:138:9
 enter-requires-2 : tie.Need-enter-requires-2
 enter-requires-2 c κs =
     let p = c .before .before .before .before .before .before .before .before .before .before .before .before .before .before .pre in
     (want-atom _ _ _ _ (p .0) (p .1) (p .2) (c .before .before .before .before .before .before .before .before .before .wanted .result) (c .before .before .before .before .before .before .before .before .before .wanted .ensures ∙ ap (wantedOf (c .before .before .before .before .before .before .before .before .before .before .before .before .before .before .args .r .kind)) (c .before .before .before .before .before .before .before .before .before .before .field-at .ensures .0)), room _ _ _ _ (p .0) .1)
 
--- src/walk.rt:139:24
 add-idle : tie.Need-add-idle
 add-idle c = search needs
 
--- src/walk.rt:139:9
 idle-requires-2 : tie.Need-idle-requires-2
 idle-requires-2 c κs = search needs
 
--- src/walk.rt:139:9
 same-length-3 : tie.Need-same-length-3
 same-length-3 c = search needs
 
--- src/walk.rt:139:9
 returns-4 : tie.Need-returns-4
 returns-4 c =
     let p = c .before .before .before .before .before .before .before .before .before .before .before .before .before .before .before .before .before .before .pre in
     opens-visited _ _ _ _ (p .0) (p .1) (p .2) (c .before .before .before .before .before .before .before .before .before .before .before .before .before .wanted .result) (c .before .before .before .before .before .before .before .before .before .before .before .before .before .wanted .ensures ∙ ap (wantedOf (c .before .before .before .before .before .before .before .before .before .before .before .before .before .before .before .before .before .before .args .r .kind)) (c .before .before .before .before .before .before .before .before .before .before .before .before .before .before .field-at .ensures .0))
     (c .before .before .before .before .before .before .before .before .rest-of2 .result) (c .before .before .before .before .before .before .before .before .rest-of2 .ensures) (c .before .before .before .before .before .before .before .before .before .before .if2 .left) _ _ (c .before .before .before .enter2 .ensures) _ refl (c .before .before .before .before .before .before .before .if3 .left) (c .before .before .before .before .before .if4 .taken) (c .idle2 .ensures)
 
--- src/walk.rt:141:5
 enter-requires-3 : tie.Need-enter-requires-3
 enter-requires-3 c κs =
     let p = c .before .before .before .before .before .before .before .before .before .before .before .before .before .before .pre in
     (want-atom _ _ _ _ (p .0) (p .1) (p .2) (c .before .before .before .before .before .before .before .before .before .wanted .result) (c .before .before .before .before .before .before .before .before .before .wanted .ensures ∙ ap (wantedOf (c .before .before .before .before .before .before .before .before .before .before .before .before .before .before .args .r .kind)) (c .before .before .before .before .before .before .before .before .before .before .field-at .ensures .0)), room _ _ _ _ (p .0) .1)
 
--- src/walk.rt:143:29
 add-due-3 : tie.Need-add-due-3
 add-due-3 c = search needs
 
--- src/walk.rt:143:9
 due-requires-3 : tie.Need-due-requires-3
 due-requires-3 c κs = search needs
 
--- src/walk.rt:143:9
 same-length-4 : tie.Need-same-length-4
 same-length-4 c = search needs
 
--- src/walk.rt:143:9
 returns-5 : tie.Need-returns-5
 returns-5 c =
     let p = c .before .before .before .before .before .before .before .before .before .before .before .before .before .before .before .before .before .before .before .pre in
     denies-none-visited _ _ _ _ (p .0) (p .1) (p .2) (c .before .before .before .before .before .before .before .before .before .before .before .before .before .before .wanted .result) (c .before .before .before .before .before .before .before .before .before .before .before .before .before .before .wanted .ensures ∙ ap (wantedOf (c .before .before .before .before .before .before .before .before .before .before .before .before .before .before .before .before .before .before .before .args .r .kind)) (c .before .before .before .before .before .before .before .before .before .before .before .before .before .before .before .field-at .ensures .0))
     (c .before .before .before .before .before .before .before .before .before .rest-of2 .result) (c .before .before .before .before .before .before .before .before .before .rest-of2 .ensures) (c .before .before .before .before .before .before .before .before .before .before .before .if2 .left) _ 0 (c .before .before .before .before .enter3 .ensures) _ refl (c .before .before .before .before .before .before .before .before .if3 .left) (c .before .before .before .before .before .before .if4 .left) (c .before .if5 .taken) (c .due3 .ensures)
 
--- src/walk.rt:151:19
 add-t13 : tie.Need-add-t13
 add-t13 c = search needs
 
--- src/walk.rt:153:9
 add-due-4 : tie.Need-add-due-4
 add-due-4 c = search needs
 
--- src/walk.rt:145:5
 due-requires-4 : tie.Need-due-requires-4
 due-requires-4 c κs = search needs
 
--- src/walk.rt:115:1
 same-length-5 : tie.Need-same-length-5
 same-length-5 c = search needs
 
--- src/walk.rt:115:1
 returns-6 : tie.Need-returns-6
 returns-6 c =
     let p = c .before .before .before .before .before .before .before .before .before .before .before .before .before .before .before .before .before .before .before .pre in

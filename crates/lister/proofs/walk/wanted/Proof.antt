@@ -6,11 +6,9 @@ use Rattle.lister.proofs.walk.wanted.Tie as tie
 use Rattle.lister.proofs.walk.wanted.Reads as reads
 use Rattle.lister.proofs.walk.wanted.Lts as lts
 
--- src/walk.rt:90:10
 sub-result : tie.Need-sub-result
 sub-result c = search needs
 
--- src/walk.rt:86:1
 returns : tie.Need-returns
 returns c = flipped _ _ (c .pre .0) (c .pre .1)
 
