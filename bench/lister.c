@@ -1,8 +1,9 @@
 /* A plain C lister of the specification's search rules, written for speed.
  *
- * The image is tested first (reader.c), as the engine tests it. A reading pass then writes the book as runs of tasks: the goal and the constraints, the body of each clause, the breaks
- * of each atom, the literals of each alternative. A task is one number, and `action` says what to do with it now. For
- * a want that depends on whether its atom is in T, in F or in neither, so a node costs one look at that table.
+ * The image is tested first (reader.c), as the engine tests it. A reading pass then writes the book as runs of tasks:
+ * the goal and the constraints, the body of each clause, the breaks of each atom, the literals of each alternative. A
+ * task is one number, and `action` says what to do with it now. For a want that depends on whether its atom is in T,
+ * in F or in neither, so a node costs one look at that table.
  *
  * An agenda is what is left of a run, and a link to a cell: what is left of the run behind it, and its link. A frame
  * is pushed only where a node has several children. What is marked after that stands on the trail, and is undone when
