@@ -15,7 +15,10 @@ pub mod Written
 pub mod Encode
 pub mod Shown
 pub mod Accepted
-pub mod Sweep
+pub mod Mentions
+pub mod Laid
+pub mod Queue
+pub mod Settling
 pub mod Taking
 pub mod Reading
 pub mod Pouring

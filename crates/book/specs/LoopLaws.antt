@@ -263,17 +263,3 @@ free-ranks b closed free c m l k =
     let quiet : _≡_ {A = ℕ} (choose (pending (b .clauses) (b .atoms) (c .head)) 1 0) 0 =
     ap (λ (t : Bool). choose t 1 0) (free-quiet b free (c .head) (closed .heads c m)) in
     omega arith
-
--- once none is pending, none is in any later round
-pub quiet-stays : (cs : List Clause) (atoms : ℕ) → Bodied atoms cs → (n k : ℕ) → quiet cs atoms n ≡ true → quiet cs atoms (k + n) ≡ true
-quiet-stays cs atoms small n zero h = let e : 0 + n ≡ n = omega arith in subst (λ (m : ℕ). quiet cs atoms m ≡ true) (sym e) h
-quiet-stays cs atoms small n (suc k) h =
-    let before = quiet-stays cs atoms small n k h in
-    let e : suc (k + n) ≡ suc k + n = omega arith in
-    subst (λ (m : ℕ). quiet cs atoms m ≡ true) e
-    (none-quiet cs atoms (suc (k + n)) (λ p l. ⊎-elim (λ q. still before p q) (λ q. q) (decide (pending cs (suc (k + n)) p))))
-  where
-    still : quiet cs atoms (k + n) ≡ true → (p : ℕ) → pending cs (suc (k + n)) p ≡ true → pending cs (suc (k + n)) p ≡ false
-    still before p q =
-        let f = pending-from cs (k + n) p q in
-        clash (f .holds) (quiet-none cs atoms (k + n) before (f .lit .atom) (small (f .clause) (f .among) (f .lit) (f .within)))

@@ -12,7 +12,7 @@ use borrow.Author.Tests.{ltb-false, lt-ltb, le-ltb, eqb-true, eqb-false, eq-eqb,
 use Rattle.base.specs.Bools.{choose, choose-true, choose-false}
 use Rattle.base.specs.Lists.{Every, every-none, every-more, every-first, every-rest, flat, sum}
 use Rattle.book.specs.Book.{Lit, Clause, Constraint, bodyCount, literalCount}
-use Rattle.book.specs.Walk.{Step, found, fault, Walk, after, give, field, running, times, Finding, fine}
+use Rattle.book.specs.Walk.{Step, found, fault, Walk, after, give, field, running, times, Finding}
 use Rattle.book.specs.WalkLaws.{Fielded, field-found, fielded, never}
 use Rattle.book.specs.Faults.{Limits, wrongLit, wrongHead, wrongSize, wrongClause, wrongConditions, wrongAlternative, bodyOf}
 use Rattle.book.specs.FaultLaws.{lit-fine, fine-lit, head-fine, fine-head, size-fine, fine-size, clause-fine, fine-clause, conditions-fine, fine-conditions, alternative-fine, fine-alternative}

@@ -1,12 +1,12 @@
--- `book::loops::is_loop_free` meets its contract: the rounds run over the book's own clauses. Assumes nothing.
-use mathlib.Core.Path.{sym, ap₂, _∙_, subst}
+-- `book::loops::is_loop_free` meets its contract: the clauses are the book's own. Assumes nothing.
+use mathlib.Core.Path.{sym, ap₂, _∙_, subst₂}
 use mathlib.Core.List.{List}
-use Prim.Native.Nat.{ℕ, _<_}
+use Prim.Native.Nat.{ℕ}
 use native.Mathlib.Omega.{arith}
 use Rattle.book.specs.Book.{Clause}
 use Rattle.book.specs.Loops.{quiet, loopFree}
-use Rattle.book.specs.LoopLaws.{Bodied}
-use Rattle.book.specs.Sweep.{found-ready, ready-laid, ready-clauses}
+use Rattle.book.specs.Settling.{Known}
+use Rattle.book.specs.Laid.{found-ready, ready-laid, ready-clauses}
 use borrow.Author.Needs.{needs}
 use Rattle.book.proofs.loops.is_loop_free.Statement.{statement}
 use Rattle.book.proofs.loops.is_loop_free.Tie as tie
@@ -52,11 +52,12 @@ settles-requires c κs =
     let count = c .field-at3 .ensures .0 in
     let atoms = c .before .before .field-at .ensures .0 ∙ r .shown .atoms in (
       ready-laid _ _ r _ _ goals count,
-      (
-        (let some = r .within .some in omega arith, let most = r .within .atoms in omega arith),
-        subst (λ (cs : List Clause). Bodied (c .before .before .field-at .result) cs) (sym (ready-clauses _ _ r _ _ goals count))
-            (λ d m l k. subst (λ (n : ℕ). l .atom < n) (sym atoms) (r .within .clausesFine d m .named l k)),
-      ),
+      subst₂ Known (sym atoms) (sym (ready-clauses _ _ r _ _ goals count))
+          (record {
+            most = r .within .atoms;
+            heads = λ d m. r .within .clausesFine d m .known;
+            bodies = λ d m l k. r .within .clausesFine d m .named l k;
+          }),
     )
 
 returns : tie.Need-returns

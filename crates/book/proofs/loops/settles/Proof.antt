@@ -1,87 +1,74 @@
 -- `book::loops::settles` meets its contract. Assumes nothing.
-use mathlib.Core.Path.{subst₂, _≡_, refl, sym, _∙_, subst}
-use native.Mathlib.Numerals.{add-one}
-use Rattle.book.specs.Book.{Clause}
-use Rattle.book.specs.Sweep.{laid-small, Marked, marked-first, marked-next, marked-quiet}
-use mathlib.Core.Bool.{false, true}
-use mathlib.Core.List.{List}
-use mathlib.Core.Logic.{_⊎_, inl, inr, ⊎-elim}
-use Prim.Native.Nat.{ℕ, _+_, _-_, _≤_}
+use Prim.Native.Nat.{_-_, _<_}
+use mathlib.Core.Path.{refl}
 use native.Mathlib.Omega.{arith}
-use borrow.Author.Needs.{needs}
-use Rattle.book.specs.Loops.{quiet}
-use Rattle.book.specs.LoopLaws.{quiet-stays}
+use lib.ListN.{getD}
 use Rattle.book.specs.Shown.{clausesAt}
+use Rattle.book.specs.Mentions.{noted-none}
+use Rattle.book.specs.Queue.{queued-few}
+use Rattle.book.specs.Settling.{Known, Settling, settling-start, settling-due, settling-next, settling-end}
 use Rattle.book.proofs.loops.settles.Statement.{statement}
 use Rattle.book.proofs.loops.settles.Tie as tie
 
 abbrev Inv-loop : tie.InvT-loop
-Inv-loop image first count atoms marks₀ n₀ marks n =
-    (n ≤ atoms)
-    × Marked (clausesAt image first count) n marks
-    × ((n ≡ 0) ⊎ (quiet (clausesAt image first count) atoms n ≡ false))
+Inv-loop image first many atoms heads earlier latest waits₀ queue₀ joined₀ taken₀ waits queue joined taken = Settling (clausesAt image first many) atoms waits queue joined taken
 
 abbrev μ-loop : tie.MeasureT-loop
-μ-loop image first count atoms marks₀ n₀ marks n = atoms - n
+μ-loop image first many atoms heads earlier latest waits₀ queue₀ joined₀ taken₀ waits queue joined taken = atoms - taken
 
--- the marks after one more round
-turned : (m : tie.After-marks2 Inv-loop μ-loop)
-    → Marked (clausesAt (m .before .before .before .before .before .before .args .image .now) (m .before .before .before .before .before .before .args .first) (m .before .before .before .before .before .before .args .count))
-    (m .before .before .before .before .loop .n + 1) (m .before .swept .result)
-turned m =
-    let args = m .before .before .before .before .before .before .args in
-    let cs : List Clause = clausesAt (args .image .now) (args .first) (args .count) in
-    let n : ℕ = m .before .before .before .before .loop .n in
-    subst₂ (λ (k : ℕ) (l : List ℕ). Marked cs k l) (sym (add-one n)) (sym (m .before .swept .ensures))
-    (marked-next cs n (m .before .before .before .before .loop .marks)
-    (laid-small (args .image .now) (args .first) (args .count) (m .before .before .before .before .before .before .pre .0))
-    (m .before .before .before .before .loop .inv .1))
+note-all-requires : tie.Need-note-all-requires Inv-loop μ-loop
+note-all-requires c κs = (c .before .before .before .before .before .pre .0, noted-none)
 
--- what `is_clear` says of them
-cleared : (m : tie.After-is-clear Inv-loop μ-loop)
-    → m .is-clear .result
-    ≡ quiet (clausesAt (m .before .before .before .before .before .before .before .args .image .now) (m .before .before .before .before .before .before .before .args .first) (m .before .before .before .before .before .before .before .args .count))
-    (m .before .before .before .before .before .before .before .args .atoms) (m .before .before .before .before .before .loop .n + 1)
-cleared m =
-    m .is-clear .ensures
-    ∙ marked-quiet _ _ (m .before .before .swept .result) _ (m .before .before .before .before .before .before .before .pre .1 .0 .1) (turned (m .before))
+start-requires : tie.Need-start-requires Inv-loop μ-loop
+start-requires c κs = (c .before .before .before .before .before .before .before .before .pre .1 .most, refl)
 
 loop-holds : tie.Need-loop-holds Inv-loop μ-loop
-loop-holds c = (search needs, marked-first _, inl refl)
+loop-holds c = settling-start (c .before .before .before .note-all .ensures) (c .start .ensures)
 
-swept-requires : tie.Need-swept-requires Inv-loop μ-loop
-swept-requires c κs = c .before .before .before .before .pre .0
+known : (c : tie.At-loop Inv-loop μ-loop)
+    → (let e = c .before .before .before .before .before .before .before .before .before .before in Known (e .args .atoms) (clausesAt (e .args .image .now) (e .args .first) (e .args .many)))
+known c = c .before .before .before .before .before .before .before .before .before .before .pre .1
 
-add-n : tie.Need-add-n Inv-loop μ-loop
-add-n c = omega arith
+-- the atom whose turn it is
+small : (c : tie.In-loop Inv-loop μ-loop) → getD (c .before .loop .queue) (c .before .loop .taken) 0 < 256
+small c = omega (arith, c .before .loop .inv .queued .holds .only (c .before .loop .taken) (c .loop-test .taken) .0, known (c .before) .most)
 
-is-clear-requires : tie.Need-is-clear-requires Inv-loop μ-loop
-is-clear-requires c κs = c .before .before .before .before .before .before .pre .1 .0 .1
+array-read-atom : tie.Need-array-read-atom Inv-loop μ-loop
+array-read-atom c = omega (arith, queued-few (c .before .loop .inv .queued), known (c .before) .most)
 
-returns : tie.Need-returns Inv-loop μ-loop
-returns c =
-    let args = c .before .before .before .before .before .before .before .before .args in
-    let cs : List Clause = clausesAt (args .image .now) (args .first) (args .count) in
-    let n : ℕ = c .before .before .before .before .before .before .loop .n in
-    let all : args .atoms - (n + 1) + (n + 1) ≡ args .atoms = omega arith in
-    sym
-    (subst (λ (k : ℕ). quiet cs (args .atoms) k ≡ true) all
-    (quiet-stays cs (args .atoms) (c .before .before .before .before .before .before .before .before .pre .1 .1) (n + 1) (args .atoms - (n + 1))
-    (sym (cleared (c .before)) ∙ c .if1 .taken)))
+cast-atom : tie.Need-cast-atom Inv-loop μ-loop
+cast-atom c = omega (arith, small c)
+
+mul-release : tie.Need-mul-release Inv-loop μ-loop
+mul-release c = omega (arith, small (c .before .before))
+
+array-read-release : tie.Need-array-read-release Inv-loop μ-loop
+array-read-release c = small (c .before .before)
+
+release-requires : tie.Need-release-requires Inv-loop μ-loop
+release-requires c κs =
+    let m = c .before .before .before .before in
+    (_, _, settling-due (known (m .before)) (m .before .loop .inv) (m .loop-test .taken) (m .before .before .before .before .before .note-all .ensures))
+
+add-taken : tie.Need-add-taken Inv-loop μ-loop
+add-taken c =
+    let m = c .before .before .before .before .before in
+    omega (arith, queued-few (m .before .loop .inv .queued), known (m .before) .most, m .loop-test .taken)
 
 loop-less : tie.Need-loop-less Inv-loop μ-loop
-loop-less c = omega arith
+loop-less c =
+    let m = c .before .before .before .before .before in
+    omega (arith, queued-few (m .before .loop .inv .queued), m .loop-test .taken)
 
 loop-again : tie.Need-loop-again Inv-loop μ-loop
-loop-again c = (omega arith, turned (c .before .before), inr (sym (cleared (c .before)) ∙ c .if1 .left))
+loop-again c =
+    let m = c .before .before .before .before .before in
+    let k = known (m .before) in
+    let s = m .before .loop .inv in
+    settling-next k s (m .loop-test .taken) (c .release .ensures _ _ (settling-due k s (m .loop-test .taken) (m .before .before .before .before .before .note-all .ensures)))
 
-returns-2 : tie.Need-returns-2 Inv-loop μ-loop
-returns-2 c =
-    let args = c .before .before .before .args in
-    let cs : List Clause = clausesAt (args .image .now) (args .first) (args .count) in
-    let n : ℕ = c .before .loop .n in
-    let all : n ≡ args .atoms = omega arith in
-    ⊎-elim (λ (e : n ≡ 0). absurd (omega (arith, c .before .before .before .pre .1 .0 .0))) (λ e. sym (subst (λ (k : ℕ). quiet cs (args .atoms) k ≡ false) all e)) (c .before .loop .inv .2)
+returns : tie.Need-returns Inv-loop μ-loop
+returns c = settling-end (known (c .before)) (c .before .loop .inv) (c .loop-test .left)
 
 pub settles-spec : {M : Type 1} → statement M
 settles-spec =
@@ -89,11 +76,15 @@ settles-spec =
     (tie.spec
     Inv-loop
     μ-loop
+    note-all-requires
+    start-requires
     loop-holds
-    swept-requires
-    add-n
-    is-clear-requires
-    returns
+    array-read-atom
+    cast-atom
+    mul-release
+    array-read-release
+    release-requires
+    add-taken
     loop-less
     loop-again
-    returns-2)
+    returns)
