@@ -10,20 +10,8 @@ use borrow.Author.Needs.{needs}
 use Rattle.book.proofs.read.Statement.{statement}
 use Rattle.book.proofs.read.Tie as tie
 
-wrong-front-requires : tie.Need-wrong-front-requires
-wrong-front-requires c κs = search needs
-
 returns : tie.Need-returns
 returns c = refused-front _ _ (c .if1 .taken) (c .before .wrong-front .ensures)
-
-take-whole-requires : tie.Need-take-whole-requires
-take-whole-requires c κs = search needs
-
-enum-known-n : tie.Need-enum-known-n
-enum-known-n c = search needs
-
-enum-told : tie.Need-enum-told
-enum-told c = search needs
 
 is-loop-free-requires : tie.Need-is-loop-free-requires
 is-loop-free-requires c κs =
@@ -53,11 +41,11 @@ pub read-spec : {M : Type 1} → statement M
 read-spec =
     tie.close
     (tie.spec
-    wrong-front-requires
+    (λ c κs. search needs)
     returns
-    take-whole-requires
-    enum-known-n
-    enum-told
+    (λ c κs. search needs)
+    (λ c. search needs)
+    (λ c. search needs)
     is-loop-free-requires
     returns-2
     returns-3

@@ -13,15 +13,6 @@ use borrow.Author.Needs.{needs}
 use Rattle.engine.proofs.verdict_on.Statement.{statement}
 use Rattle.engine.proofs.verdict_on.Tie as tie
 
-before-search-requires : tie.Need-before-search-requires
-before-search-requires c κs = search needs
-
-enum-known-number : tie.Need-enum-known-number
-enum-known-number c = search needs
-
-enum-told : tie.Need-enum-told
-enum-told c = search needs
-
 -- the search may begin
 admitted : (m : tie.After-enum-told) → let a = m .before .before .before .before .before .before .args in
     Admitted (a .image .now) (a .budget) (length (a .sets .now)) (length (a .work .now))
@@ -51,12 +42,6 @@ known m =
 list-book-requires : tie.Need-list-book-requires
 list-book-requires c κs = admitted (c .before .before .before .before)
 
-enum-known-number-2 : tie.Need-enum-known-number-2
-enum-known-number-2 c = search needs
-
-enum-known-count : tie.Need-enum-known-count
-enum-known-count c = search needs
-
 decide-requires : tie.Need-decide-requires
 decide-requires c κs =
     let m = c .before .before .before .before .before .before .before .before in (
@@ -67,23 +52,11 @@ decide-requires c κs =
 returns-2 : tie.Need-returns-2
 returns-2 c = verdict-early _ _ _ _ _ _ _ (c .before .before .before .before-search .ensures) (c .before .number .given .1)
 
-same-length : tie.Need-same-length
-same-length c = search needs
-
-same-length-2 : tie.Need-same-length-2
-same-length-2 c = search needs
-
 returns-3 : tie.Need-returns-3
 returns-3 c =
     let m = c .before .before .before .before .before .before .before in
     verdict-refused _ _ _ _ _ _ _ (by-listing _ _ _ _ _ (admitted (m .before .before .before .before .before)) (known (m .before .before)))
     _ (m .list-book .ensures) _ _ (c .before .number2 .given .1)
-
-same-length-3 : tie.Need-same-length-3
-same-length-3 c = search needs
-
-same-length-4 : tie.Need-same-length-4
-same-length-4 c = search needs
 
 returns-4 : tie.Need-returns-4
 returns-4 c =
@@ -99,19 +72,19 @@ pub verdict-on-spec : {M : Type 1} → statement M
 verdict-on-spec =
     tie.close
     (tie.spec
-    before-search-requires
-    enum-known-number
-    enum-told
+    (λ c κs. search needs)
+    (λ c. search needs)
+    (λ c. search needs)
     field-at-requires
     returns
     list-book-requires
-    enum-known-number-2
-    enum-known-count
+    (λ c. search needs)
+    (λ c. search needs)
     decide-requires
     returns-2
-    same-length
-    same-length-2
+    (λ c. search needs)
+    (λ c. search needs)
     returns-3
-    same-length-3
-    same-length-4
+    (λ c. search needs)
+    (λ c. search needs)
     returns-4)

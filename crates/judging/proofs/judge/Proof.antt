@@ -4,15 +4,6 @@ use borrow.Author.Needs.{needs}
 use Rattle.judging.proofs.judge.Statement.{statement}
 use Rattle.judging.proofs.judge.Tie as tie
 
-read-requires : tie.Need-read-requires
-read-requires c κs = search needs
-
-enum-known-n : tie.Need-enum-known-n
-enum-known-n c = search needs
-
-enum-told : tie.Need-enum-told
-enum-told c = search needs
-
 judge-accepted-requires : tie.Need-judge-accepted-requires
 judge-accepted-requires c κs = read-accepts _ _ (c .before .before .read .ensures) (c .enum-told .given .1)
 
@@ -25,4 +16,4 @@ returns-2 c = accepted-judged _ _ _ (read-accepts _ _ (c .before .before .before
 pub judge-spec : {M : Type 1} → statement M
 judge-spec =
     tie.close
-    (tie.spec read-requires enum-known-n enum-told judge-accepted-requires returns returns-2)
+    (tie.spec (λ c κs. search needs) (λ c. search needs) (λ c. search needs) judge-accepted-requires returns returns-2)

@@ -12,29 +12,11 @@ use Rattle.judging.proofs.judge_accepted.Tie as tie
 field-at-requires : tie.Need-field-at-requires
 field-at-requires c κs = let sh = shows (c .before .args .image .now) (c .before .pre) in omega (arith, sh .front, sh .fits)
 
-names-above-requires : tie.Need-names-above-requires
-names-above-requires c κs = search needs
-
 returns : tie.Need-returns
 returns c = answers-above _ (c .before .before .before .before .pre) _ _ _ (c .before .before .field-at .ensures .0) (c .before .names-above .ensures) (c .if1 .taken)
 
 field-at-requires-2 : tie.Need-field-at-requires-2
 field-at-requires-2 c κs = let sh = shows (c .before .before .before .before .args .image .now) (c .before .before .before .before .pre) in omega (arith, sh .front, sh .fits)
-
-cast-goals : tie.Need-cast-goals
-cast-goals c = search needs
-
-mul-behind : tie.Need-mul-behind
-mul-behind c = search needs
-
-add-behind : tie.Need-add-behind
-add-behind c = search needs
-
-sub-first-false : tie.Need-sub-first-false
-sub-first-false c = search needs
-
-part-first-false-start : tie.Need-part-first-false-start
-part-first-false-start c = search needs
 
 part-first-false-end : tie.Need-part-first-false-end
 part-first-false-end c = let g = goal-counted (c .before .before .before .before .before .before .args .image .now) (c .before .before .before .before .before .before .pre) in omega (arith, g .count, g .within, c .before .field-at2 .ensures .0)
@@ -42,26 +24,11 @@ part-first-false-end c = let g = goal-counted (c .before .before .before .before
 first-false-requires : tie.Need-first-false-requires
 first-false-requires c κs = (c .before .before .before .before .before .before .before .pre, (noted-none _ _ 256, goal-known _ (c .before .before .before .before .before .before .before .pre) _ (c .before .before .field-at2 .ensures .0)))
 
-cast-t18 : tie.Need-cast-t18
-cast-t18 c = search needs
-
 returns-2 : tie.Need-returns-2
 returns-2 c = answers-goal _ (c .before .before .before .before .before .before .before .before .before .pre) _ _ _ (c .before .before .before .before .before .before .before .field-at .ensures .0) (c .before .before .before .before .before .before .names-above .ensures) (c .before .before .before .before .before .if1 .left) _ _ (c .before .before .before .before .field-at2 .ensures .0) (c .before .first-false .ensures .0) (c .if2 .taken)
 
-constraints-requires : tie.Need-constraints-requires
-constraints-requires c κs = search needs
-
 field-at-requires-3 : tie.Need-field-at-requires-3
 field-at-requires-3 c κs = let sh = shows (c .before .before .before .before .before .before .before .before .before .before .args .image .now) (c .before .before .before .before .before .before .before .before .before .before .pre) in omega (arith, sh .fits, c .constraints .ensures)
-
-cast-count : tie.Need-cast-count
-cast-count c = search needs
-
-first-broken-requires : tie.Need-first-broken-requires
-first-broken-requires c κs = search needs
-
-cast-t20 : tie.Need-cast-t20
-cast-t20 c = search needs
 
 returns-3 : tie.Need-returns-3
 returns-3 c =
@@ -80,22 +47,22 @@ judge-accepted-spec =
     tie.close
     (tie.spec
     field-at-requires
-    names-above-requires
+    (λ c κs. search needs)
     returns
     field-at-requires-2
-    cast-goals
-    mul-behind
-    add-behind
-    sub-first-false
-    part-first-false-start
+    (λ c. search needs)
+    (λ c. search needs)
+    (λ c. search needs)
+    (λ c. search needs)
+    (λ c. search needs)
     part-first-false-end
     first-false-requires
-    cast-t18
+    (λ c. search needs)
     returns-2
-    constraints-requires
+    (λ c κs. search needs)
     field-at-requires-3
-    cast-count
-    first-broken-requires
-    cast-t20
+    (λ c. search needs)
+    (λ c κs. search needs)
+    (λ c. search needs)
     returns-3
     returns-4)

@@ -7,11 +7,8 @@ use Rattle.judging.proofs.names_above.Tie as tie
 returns : tie.Need-returns
 returns c = none-above _ _ (c .before .fits .set .fits) (c .if1 .taken)
 
-shr-result : tie.Need-shr-result
-shr-result c = search needs
-
 returns-2 : tie.Need-returns-2
 returns-2 c = above (c .before .args .set) (c .before .args .abducibles)
 
 pub names-above-spec : {M : Type 1} → statement M
-names-above-spec = tie.close (tie.spec returns shr-result returns-2)
+names-above-spec = tie.close (tie.spec returns (λ c. search needs) returns-2)

@@ -6,15 +6,6 @@ use borrow.Author.Needs.{needs}
 use Rattle.lister.proofs.before_search.Statement.{statement}
 use Rattle.lister.proofs.before_search.Tie as tie
 
-read-requires : tie.Need-read-requires
-read-requires c κs = search needs
-
-enum-known-n : tie.Need-enum-known-n
-enum-known-n c = search needs
-
-enum-told : tie.Need-enum-told
-enum-told c = search needs
-
 -- the book of an image that was accepted
 book : (m : tie.After-enum-told) → IsBook (m .before .before .before .before .args .image .now)
 book m = read-book _ _ (m .before .before .read .ensures) (m .enum-told .given .1)
@@ -43,9 +34,9 @@ pub before-search-spec : {M : Type 1} → statement M
 before-search-spec =
     tie.close
     (tie.spec
-    read-requires
-    enum-known-n
-    enum-told
+    (λ c κs. search needs)
+    (λ c. search needs)
+    (λ c. search needs)
     returns
     returns-2
     returns-3

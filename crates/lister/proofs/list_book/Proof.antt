@@ -7,17 +7,6 @@ use Rattle.lister.specs.Whole.{begins, count-fits, ends-listed, ends-sho
 use borrow.Author.Needs.{needs}
 use Rattle.lister.proofs.list_book.Statement.{statement}
 use Rattle.lister.proofs.list_book.Tie as tie
-use Rattle.lister.proofs.list_book.Reads as reads
-use Rattle.lister.proofs.list_book.Lts as lts
-use Rattle.book.proofs.fields.field_at.Reads as field-at-reads
-use Rattle.lister.proofs.area.wipe.Reads as wipe-reads
-use Rattle.lister.proofs.start.start.Reads as start-reads
-use Rattle.lister.proofs.search.walk_on.Reads as walk-on-reads
-use Rattle.sets.proofs.lists.clear.Reads as clear-reads
-use Rattle.sets.proofs.order.order.Reads as order-reads
-
-start-requires : tie.Need-start-requires
-start-requires c κs = search needs
 
 field-at-requires : tie.Need-field-at-requires
 field-at-requires c κs = let n = counts _ (c .before .before .before .before .before .before .before .pre .book) in omega (arith, n .front, n .there, n .place)
@@ -25,23 +14,11 @@ field-at-requires c κs = let n = counts _ (c .before .before .before .before .b
 walk-on-requires : tie.Need-walk-on-requires
 walk-on-requires c κs = let p = c .before .before .before .before .before .before .before .before .before .before .pre in (begins _ _ _ _ _ _ (p .book) (c .before .before .before .before .before .start .ensures) (p .few), c .before .before .field-at .ensures .0)
 
-wipe-requires : tie.Need-wipe-requires
-wipe-requires c κs = search needs
-
-cast-count : tie.Need-cast-count
-cast-count c = search needs
-
 order-requires : tie.Need-order-requires
 order-requires c κs = let h = c .before .before .before .before .before .before .before .before .before .before .before .walk-on .ensures in count-fits _ _ (c .before .before .before .before .before .before .before .before .before .before .before .before .before .before .before .before .before .before .before .before .before .before .args .sets .now) (c .before .before .before .before .before .before .before .before .before .before .before .before .before .before .before .before .before .before .before .before .before .before .args .work .now) _ (c .before .before .before .before .before .before .before .before .before .before .before .walk-on .last .1 .1 .1 .1 .0) _ (h .stopped) (c .before .before .before .before .before .before .before .before .before .before .before .walk-on .kept .1 .1 .1 .0) (h .later ∙ c .before .before .before .before .before .before .before .before .before .before .before .before .before .before .before .before .before .start .ensures .later) (c .before .if1 .taken)
 
 clear-requires : tie.Need-clear-requires
 clear-requires c κs = let h = c .before .before .before .before .before .before .before .before .before .before .before .before .before .before .before .walk-on .ensures in omega (arith, count-fits _ _ (c .before .before .before .before .before .before .before .before .before .before .before .before .before .before .before .before .before .before .before .before .before .before .before .before .before .before .args .sets .now) (c .before .before .before .before .before .before .before .before .before .before .before .before .before .before .before .before .before .before .before .before .before .before .before .before .before .before .args .work .now) _ (c .before .before .before .before .before .before .before .before .before .before .before .before .before .before .before .walk-on .last .1 .1 .1 .1 .0) _ (h .stopped) (c .before .before .before .before .before .before .before .before .before .before .before .before .before .before .before .walk-on .kept .1 .1 .1 .0) (h .later ∙ c .before .before .before .before .before .before .before .before .before .before .before .before .before .before .before .before .before .before .before .before .before .start .ensures .later) (c .before .before .before .before .before .if1 .taken), c .before .before .before .order .kept .0)
-
-same-length : tie.Need-same-length
-same-length c = search needs
-
-same-length-2 : tie.Need-same-length-2
-same-length-2 c = search needs
 
 returns : tie.Need-returns
 returns c =
@@ -49,26 +26,11 @@ returns c =
     searched-lists _ _ _ _ (c .before .before .before .before .before .before .before .before .before .before .before .before .before .before .before .before .before .before .before .before .before .before .before .before .before .before .before .before .before .pre) _ _ _
     (ends-listed _ _ (c .before .before .before .before .before .before .before .before .before .before .before .before .before .before .before .before .before .before .before .before .before .before .before .before .before .before .before .before .before .args .sets .now) (c .before .before .before .before .before .before .before .before .before .before .before .before .before .before .before .before .before .before .before .before .before .before .before .before .before .before .before .before .before .args .work .now) _ (c .before .before .before .before .before .before .before .before .before .before .before .before .before .before .before .before .before .before .walk-on .last .1 .1 .1 .1 .0) _ (h .stopped) (c .before .before .before .before .before .before .before .before .before .before .before .before .before .before .before .before .before .before .walk-on .kept .1 .1 .1 .0) (h .later ∙ c .before .before .before .before .before .before .before .before .before .before .before .before .before .before .before .before .before .before .before .before .before .before .before .before .start .ensures .later) _ _ _ (c .before .before .before .before .before .before .before .before .if1 .taken) (c .before .before .before .before .before .before .order .ensures) (c .before .before .clear .ensures) (c .before .before .before .before .before .before .before .before .before .before .before .before .wipe .ensures))
 
-clear-requires-2 : tie.Need-clear-requires-2
-clear-requires-2 c κs = search needs
-
-same-length-3 : tie.Need-same-length-3
-same-length-3 c = search needs
-
-same-length-4 : tie.Need-same-length-4
-same-length-4 c = search needs
-
 returns-2 : tie.Need-returns-2
 returns-2 c =
     let h = c .before .before .before .before .before .before .before .before .before .before .before .before .before .before .before .walk-on .ensures in
     searched-lists _ _ _ _ (c .before .before .before .before .before .before .before .before .before .before .before .before .before .before .before .before .before .before .before .before .before .before .before .before .before .before .pre) _ _ _
     (ends-short _ _ (c .before .before .before .before .before .before .before .before .before .before .before .before .before .before .before .before .before .before .before .before .before .before .before .before .before .before .args .sets .now) (c .before .before .before .before .before .before .before .before .before .before .before .before .before .before .before .before .before .before .before .before .before .before .before .before .before .before .args .work .now) _ (c .before .before .before .before .before .before .before .before .before .before .before .before .before .before .before .walk-on .last .1 .1 .1 .1 .0) _ (h .stopped) (c .before .before .before .before .before .before .before .before .before .before .before .before .before .before .before .walk-on .kept .1 .1 .1 .0) (h .later ∙ c .before .before .before .before .before .before .before .before .before .before .before .before .before .before .before .before .before .before .before .before .before .start .ensures .later) _ _ (c .if2 .taken) (c .before .before .before .clear2 .ensures) (c .before .before .before .before .before .before .before .before .before .wipe .ensures))
-
-same-length-5 : tie.Need-same-length-5
-same-length-5 c = search needs
-
-same-length-6 : tie.Need-same-length-6
-same-length-6 c = search needs
 
 returns-3 : tie.Need-returns-3
 returns-3 c =
@@ -80,20 +42,20 @@ pub list-book-spec : {M : Type 1} → statement M
 list-book-spec =
     tie.close
     (tie.spec
-    start-requires
+    (λ c κs. search needs)
     field-at-requires
     walk-on-requires
-    wipe-requires
-    cast-count
+    (λ c κs. search needs)
+    (λ c. search needs)
     order-requires
     clear-requires
-    same-length
-    same-length-2
+    (λ c. search needs)
+    (λ c. search needs)
     returns
-    clear-requires-2
-    same-length-3
-    same-length-4
+    (λ c κs. search needs)
+    (λ c. search needs)
+    (λ c. search needs)
     returns-2
-    same-length-5
-    same-length-6
+    (λ c. search needs)
+    (λ c. search needs)
     returns-3)

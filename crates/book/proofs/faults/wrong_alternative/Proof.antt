@@ -9,12 +9,9 @@ returns : tie.Need-returns
 unfolding wrongAlternative
 returns c = simp (lt-leb _ _ (c .if1 .taken))
 
-wrong-conditions-requires : tie.Need-wrong-conditions-requires
-wrong-conditions-requires c κs = search needs
-
 returns-2 : tie.Need-returns-2
 unfolding wrongAlternative
 returns-2 c = simp (le-leb _ _ (c .before .if1 .left)) (c .wrong-conditions .ensures)
 
 pub wrong-alternative-spec : {M : Type 1} → statement M
-wrong-alternative-spec = tie.close (tie.spec returns wrong-conditions-requires returns-2)
+wrong-alternative-spec = tie.close (tie.spec returns (λ c κs. search needs) returns-2)

@@ -9,18 +9,12 @@ use borrow.Author.Needs.{needs}
 use Rattle.book.proofs.faults.wrong_clause.Statement.{statement}
 use Rattle.book.proofs.faults.wrong_clause.Tie as tie
 
-wrong-size-requires : tie.Need-wrong-size-requires
-wrong-size-requires c κs = search needs
-
 returns : tie.Need-returns
 unfolding wrongClause
 returns c = finding-first _ _ _ (c .if1 .taken) (c .before .wrong-size .ensures)
 
 sub-if2 : tie.Need-sub-if2
 sub-if2 c = omega (arith, size-fine _ _ (sym (c .before .wrong-size .ensures) ∙ ap finding (c .if1 .left)))
-
-add-if2 : tie.Need-add-if2
-add-if2 c = search needs
 
 returns-2 : tie.Need-returns-2
 unfolding wrongClause
@@ -32,4 +26,4 @@ returns-3 c = simp (sym (c .before .before .wrong-size .ensures) ∙ ap finding 
 
 pub wrong-clause-spec : {M : Type 1} → statement M
 wrong-clause-spec =
-    tie.close (tie.spec wrong-size-requires returns sub-if2 add-if2 returns-2 returns-3)
+    tie.close (tie.spec (λ c κs. search needs) returns sub-if2 (λ c. search needs) returns-2 returns-3)

@@ -5,15 +5,9 @@ use borrow.Author.Needs.{needs}
 use Rattle.book.proofs.faults.wrong_conditions.Statement.{statement}
 use Rattle.book.proofs.faults.wrong_conditions.Tie as tie
 
-mul-if1 : tie.Need-mul-if1
-mul-if1 c = search needs
-
 returns : tie.Need-returns
 unfolding wrongConditions
 returns c = simp (lt-leb _ _ (c .if1 .taken))
-
-add-if2 : tie.Need-add-if2
-add-if2 c = search needs
 
 returns-2 : tie.Need-returns-2
 unfolding wrongConditions
@@ -24,4 +18,4 @@ unfolding wrongConditions
 returns-3 c = simp (le-leb _ _ (c .before .if1 .left), le-leb _ _ (c .if2 .left))
 
 pub wrong-conditions-spec : {M : Type 1} → statement M
-wrong-conditions-spec = tie.close (tie.spec mul-if1 returns add-if2 returns-2 returns-3)
+wrong-conditions-spec = tie.close (tie.spec (λ c. search needs) returns (λ c. search needs) returns-2 returns-3)

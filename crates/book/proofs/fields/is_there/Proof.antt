@@ -12,9 +12,6 @@ use Rattle.book.proofs.fields.is_there.Tie as tie
 returns : tie.Need-returns
 returns c = sym (lt-leb (c .before .args .at + 2) (length (c .before .args .image .now)) (omega arith))
 
-sub-result : tie.Need-sub-result
-sub-result c = search needs
-
 returns-2 : tie.Need-returns-2
 returns-2 c =
     let at : ℕ = c .before .args .at in
@@ -24,4 +21,4 @@ returns-2 c =
     (λ e. le-leb 2 (n - at) (omega (arith, leb-true (at + 2) n e)))
 
 pub is-there-spec : {M : Type 1} → statement M
-is-there-spec = tie.close (tie.spec returns sub-result returns-2)
+is-there-spec = tie.close (tie.spec returns (λ c. search needs) returns-2)

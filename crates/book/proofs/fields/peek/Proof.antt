@@ -6,17 +6,11 @@ use borrow.Author.Needs.{needs}
 use Rattle.book.proofs.fields.peek.Statement.{statement}
 use Rattle.book.proofs.fields.peek.Tie as tie
 
-is-there-requires : tie.Need-is-there-requires
-is-there-requires c κs = search needs
-
 field-at-requires : tie.Need-field-at-requires
 field-at-requires c κs = leb-true _ _ (sym (c .before .is-there .ensures) ∙ c .if1 .taken)
-
-returns : tie.Need-returns
-returns c = search needs
 
 returns-2 : tie.Need-returns-2
 returns-2 c = (λ e. clash e (sym (c .before .is-there .ensures) ∙ c .if1 .left), search needs)
 
 pub peek-spec : {M : Type 1} → statement M
-peek-spec = tie.close (tie.spec is-there-requires field-at-requires returns returns-2)
+peek-spec = tie.close (tie.spec (λ c κs. search needs) field-at-requires (λ c. search needs) returns-2)

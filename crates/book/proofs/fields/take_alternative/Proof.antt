@@ -7,18 +7,6 @@ use borrow.Author.Needs.{needs}
 use Rattle.book.proofs.fields.take_alternative.Statement.{statement}
 use Rattle.book.proofs.fields.take_alternative.Tie as tie
 
-peek-requires : tie.Need-peek-requires
-peek-requires c κs = search needs
-
-left-behind-requires : tie.Need-left-behind-requires
-left-behind-requires c κs = search needs
-
-wrong-alternative-requires : tie.Need-wrong-alternative-requires
-wrong-alternative-requires c κs = search needs
-
-tested-requires : tie.Need-tested-requires
-tested-requires c κs = search needs
-
 returns : tie.Need-returns
 returns c =
     c .tested .ensures
@@ -29,8 +17,8 @@ pub take-alternative-spec : {M : Type 1} → statement M
 take-alternative-spec =
     tie.close
     (tie.spec
-    peek-requires
-    left-behind-requires
-    wrong-alternative-requires
-    tested-requires
+    (λ c κs. search needs)
+    (λ c κs. search needs)
+    (λ c κs. search needs)
+    (λ c κs. search needs)
     returns)

@@ -7,18 +7,6 @@ use borrow.Author.Needs.{needs}
 use Rattle.book.proofs.fields.take_clause_size.Statement.{statement}
 use Rattle.book.proofs.fields.take_clause_size.Tie as tie
 
-peek-requires : tie.Need-peek-requires
-peek-requires c κs = search needs
-
-left-behind-requires : tie.Need-left-behind-requires
-left-behind-requires c κs = search needs
-
-wrong-clause-requires : tie.Need-wrong-clause-requires
-wrong-clause-requires c κs = search needs
-
-tested-requires : tie.Need-tested-requires
-tested-requires c κs = search needs
-
 returns : tie.Need-returns
 returns c =
     c .tested .ensures
@@ -28,4 +16,4 @@ returns c =
 pub take-clause-size-spec : {M : Type 1} → statement M
 take-clause-size-spec =
     tie.close
-    (tie.spec peek-requires left-behind-requires wrong-clause-requires tested-requires returns)
+    (tie.spec (λ c κs. search needs) (λ c κs. search needs) (λ c κs. search needs) (λ c κs. search needs) returns)

@@ -5,17 +5,8 @@ use borrow.Author.Needs.{needs}
 use Rattle.book.proofs.fields.take_count.Statement.{statement}
 use Rattle.book.proofs.fields.take_count.Tie as tie
 
-peek-requires : tie.Need-peek-requires
-peek-requires c κs = search needs
-
-wrong-count-requires : tie.Need-wrong-count-requires
-wrong-count-requires c κs = search needs
-
-tested-requires : tie.Need-tested-requires
-tested-requires c κs = search needs
-
 returns : tie.Need-returns
 returns c = c .tested .ensures ∙ field-by _ _ _ _ _ (c .before .before .peek .ensures .0) (c .before .wrong-count .ensures)
 
 pub take-count-spec : {M : Type 1} → statement M
-take-count-spec = tie.close (tie.spec peek-requires wrong-count-requires tested-requires returns)
+take-count-spec = tie.close (tie.spec (λ c κs. search needs) (λ c κs. search needs) (λ c κs. search needs) returns)

@@ -5,17 +5,8 @@ use borrow.Author.Needs.{needs}
 use Rattle.book.proofs.fields.take_head.Statement.{statement}
 use Rattle.book.proofs.fields.take_head.Tie as tie
 
-peek-requires : tie.Need-peek-requires
-peek-requires c κs = search needs
-
-wrong-head-requires : tie.Need-wrong-head-requires
-wrong-head-requires c κs = search needs
-
-tested-requires : tie.Need-tested-requires
-tested-requires c κs = search needs
-
 returns : tie.Need-returns
 returns c = c .tested .ensures ∙ field-by _ _ _ _ _ (c .before .before .peek .ensures .0) (c .before .wrong-head .ensures)
 
 pub take-head-spec : {M : Type 1} → statement M
-take-head-spec = tie.close (tie.spec peek-requires wrong-head-requires tested-requires returns)
+take-head-spec = tie.close (tie.spec (λ c κs. search needs) (λ c κs. search needs) (λ c κs. search needs) returns)

@@ -5,18 +5,9 @@ use borrow.Author.Needs.{needs}
 use Rattle.book.proofs.fields.take_literal.Statement.{statement}
 use Rattle.book.proofs.fields.take_literal.Tie as tie
 
-peek-requires : tie.Need-peek-requires
-peek-requires c κs = search needs
-
-wrong-literal-requires : tie.Need-wrong-literal-requires
-wrong-literal-requires c κs = search needs
-
-tested-requires : tie.Need-tested-requires
-tested-requires c κs = search needs
-
 returns : tie.Need-returns
 returns c = c .tested .ensures ∙ field-by _ _ _ _ _ (c .before .before .peek .ensures .0) (c .before .wrong-literal .ensures)
 
 pub take-literal-spec : {M : Type 1} → statement M
 take-literal-spec =
-    tie.close (tie.spec peek-requires wrong-literal-requires tested-requires returns)
+    tie.close (tie.spec (λ c κs. search needs) (λ c κs. search needs) (λ c κs. search needs) returns)

@@ -7,18 +7,6 @@ use borrow.Author.Needs.{needs}
 use Rattle.book.proofs.fields.take_size.Statement.{statement}
 use Rattle.book.proofs.fields.take_size.Tie as tie
 
-peek-requires : tie.Need-peek-requires
-peek-requires c κs = search needs
-
-left-behind-requires : tie.Need-left-behind-requires
-left-behind-requires c κs = search needs
-
-wrong-size-requires : tie.Need-wrong-size-requires
-wrong-size-requires c κs = search needs
-
-tested-requires : tie.Need-tested-requires
-tested-requires c κs = search needs
-
 returns : tie.Need-returns
 returns c =
     c .tested .ensures
@@ -28,4 +16,4 @@ returns c =
 pub take-size-spec : {M : Type 1} → statement M
 take-size-spec =
     tie.close
-    (tie.spec peek-requires left-behind-requires wrong-size-requires tested-requires returns)
+    (tie.spec (λ c κs. search needs) (λ c κs. search needs) (λ c κs. search needs) (λ c κs. search needs) returns)

@@ -10,9 +10,6 @@ use borrow.Author.Needs.{needs}
 use Rattle.book.proofs.fields.tested.Statement.{statement}
 use Rattle.book.proofs.fields.tested.Tie as tie
 
-is-there-requires : tie.Need-is-there-requires
-is-there-requires c κs = search needs
-
 returns : tie.Need-returns
 returns c = sym (choose-false _ _ (sym (c .before .is-there .ensures) ∙ not-true _ (c .if1 .taken)))
 
@@ -31,4 +28,4 @@ returns-3 : tie.Need-returns-3
 returns-3 c = sym (choose-true _ _ (sym (c .before .before .is-there .ensures) ∙ not-false _ (c .before .if1 .left)) ∙ simp (finding-wrong _ (c .if2 .left)))
 
 pub tested-spec : {M : Type 1} → statement M
-tested-spec = tie.close (tie.spec is-there-requires returns add-t7 returns-2 returns-3)
+tested-spec = tie.close (tie.spec (λ c κs. search needs) returns add-t7 returns-2 returns-3)

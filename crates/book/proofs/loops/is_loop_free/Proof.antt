@@ -25,15 +25,6 @@ field-at-requires-2 c κs =
     let g = sh .fits in
     omega arith
 
-cast-at : tie.Need-cast-at
-cast-at c = search needs
-
-mul-at : tie.Need-mul-at
-mul-at c = search needs
-
-add-at : tie.Need-add-at
-add-at c = search needs
-
 field-at-requires-3 : tie.Need-field-at-requires-3
 field-at-requires-3 c κs =
     let sh = found-ready _ _ _ (c .before .before .before .pre .2) .shown in
@@ -41,9 +32,6 @@ field-at-requires-3 c κs =
     let g = sh .fits in
     let h = sh .goals in
     omega (arith, c .field-at2 .ensures .0)
-
-add-settles : tie.Need-add-settles
-add-settles c = search needs
 
 settles-requires : tie.Need-settles-requires
 settles-requires c κs =
@@ -77,10 +65,10 @@ is-loop-free-spec =
     (tie.spec
     field-at-requires
     field-at-requires-2
-    cast-at
-    mul-at
-    add-at
+    (λ c. search needs)
+    (λ c. search needs)
+    (λ c. search needs)
     field-at-requires-3
-    add-settles
+    (λ c. search needs)
     settles-requires
     returns)

@@ -10,32 +10,11 @@ use borrow.Author.Needs.{needs}
 use Rattle.book.proofs.records.take_clause.Statement.{statement}
 use Rattle.book.proofs.records.take_clause.Tie as tie
 
-take-clause-size-requires : tie.Need-take-clause-size-requires
-take-clause-size-requires c κs = search needs
-
-enum-known-n : tie.Need-enum-known-n
-enum-known-n c = search needs
-
-enum-known-size : tie.Need-enum-known-size
-enum-known-size c = search needs
-
-take-head-requires : tie.Need-take-head-requires
-take-head-requires c κs = search needs
-
-enum-known-n-2 : tie.Need-enum-known-n-2
-enum-known-n-2 c = search needs
-
-enum-known-body : tie.Need-enum-known-body
-enum-known-body c = search needs
-
 sub-take-literals : tie.Need-sub-take-literals
 sub-take-literals c =
     let found = field-found _ _ _ _ _ (sym (c .before .before .before .before .before .before .before .take-clause-size .ensures) ∙ ap taken (c .before .before .before .before .before .size .given .1)) in
     let sized = clause-fine _ _ _ _ (found .isFine) .sized .some in
     omega arith
-
-take-literals-requires : tie.Need-take-literals-requires
-take-literals-requires c κs = search needs
 
 returns : tie.Need-returns
 returns c =
@@ -63,14 +42,14 @@ pub take-clause-spec : {M : Type 1} → statement M
 take-clause-spec =
     tie.close
     (tie.spec
-    take-clause-size-requires
-    enum-known-n
-    enum-known-size
-    take-head-requires
-    enum-known-n-2
-    enum-known-body
+    (λ c κs. search needs)
+    (λ c. search needs)
+    (λ c. search needs)
+    (λ c κs. search needs)
+    (λ c. search needs)
+    (λ c. search needs)
     sub-take-literals
-    take-literals-requires
+    (λ c κs. search needs)
     returns
     returns-2
     returns-3)

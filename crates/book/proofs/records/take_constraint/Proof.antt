@@ -11,26 +11,11 @@ use borrow.Author.Needs.{needs}
 use Rattle.book.proofs.records.take_constraint.Statement.{statement}
 use Rattle.book.proofs.records.take_constraint.Tie as tie
 
-take-size-requires : tie.Need-take-size-requires
-take-size-requires c κs = search needs
-
-enum-known-n : tie.Need-enum-known-n
-enum-known-n c = search needs
-
-enum-known-size : tie.Need-enum-known-size
-enum-known-size c = search needs
-
-cast-take-inside : tie.Need-cast-take-inside
-cast-take-inside c = search needs
-
 add-take-inside : tie.Need-add-take-inside
 add-take-inside c =
     let found = field-found _ _ _ _ _ (sym (c .before .before .before .take-size .ensures) ∙ ap taken (c .before .size .given .1)) in
     let sized = size-fine _ _ (found .isFine) in
     omega arith
-
-take-inside-requires : tie.Need-take-inside-requires
-take-inside-requires c κs = search needs
 
 returns : tie.Need-returns
 returns c =
@@ -50,11 +35,11 @@ pub take-constraint-spec : {M : Type 1} → statement M
 take-constraint-spec =
     tie.close
     (tie.spec
-    take-size-requires
-    enum-known-n
-    enum-known-size
-    cast-take-inside
+    (λ c κs. search needs)
+    (λ c. search needs)
+    (λ c. search needs)
+    (λ c. search needs)
     add-take-inside
-    take-inside-requires
+    (λ c κs. search needs)
     returns
     returns-2)

@@ -11,24 +11,6 @@ use borrow.Author.Needs.{needs}
 use Rattle.book.proofs.records.take_inside.Statement.{statement}
 use Rattle.book.proofs.records.take_inside.Tie as tie
 
-take-conditions-requires : tie.Need-take-conditions-requires
-take-conditions-requires c κs = search needs
-
-enum-known-n : tie.Need-enum-known-n
-enum-known-n c = search needs
-
-enum-known-count : tie.Need-enum-known-count
-enum-known-count c = search needs
-
-take-literals-requires : tie.Need-take-literals-requires
-take-literals-requires c κs = search needs
-
-enum-known-n-2 : tie.Need-enum-known-n-2
-enum-known-n-2 c = search needs
-
-enum-known-ways : tie.Need-enum-known-ways
-enum-known-ways c = search needs
-
 add-take-ways : tie.Need-add-take-ways
 add-take-ways c =
     let found = field-found _ _ _ _ _ (sym (c .before .before .before .before .before .before .before .take-conditions .ensures) ∙ ap taken (c .before .before .before .before .before .count .given .1)) in
@@ -69,12 +51,12 @@ pub take-inside-spec : {M : Type 1} → statement M
 take-inside-spec =
     tie.close
     (tie.spec
-    take-conditions-requires
-    enum-known-n
-    enum-known-count
-    take-literals-requires
-    enum-known-n-2
-    enum-known-ways
+    (λ c κs. search needs)
+    (λ c. search needs)
+    (λ c. search needs)
+    (λ c κs. search needs)
+    (λ c. search needs)
+    (λ c. search needs)
     add-take-ways
     take-ways-requires
     returns

@@ -7,18 +7,6 @@ use borrow.Author.Needs.{needs}
 use Rattle.book.proofs.records.take_way.Statement.{statement}
 use Rattle.book.proofs.records.take_way.Tie as tie
 
-take-alternative-requires : tie.Need-take-alternative-requires
-take-alternative-requires c κs = search needs
-
-enum-known-n : tie.Need-enum-known-n
-enum-known-n c = search needs
-
-enum-known-count : tie.Need-enum-known-count
-enum-known-count c = search needs
-
-take-literals-requires : tie.Need-take-literals-requires
-take-literals-requires c κs = search needs
-
 returns : tie.Need-returns
 returns c =
     sym
@@ -35,9 +23,9 @@ pub take-way-spec : {M : Type 1} → statement M
 take-way-spec =
     tie.close
     (tie.spec
-    take-alternative-requires
-    enum-known-n
-    enum-known-count
-    take-literals-requires
+    (λ c κs. search needs)
+    (λ c. search needs)
+    (λ c. search needs)
+    (λ c κs. search needs)
     returns
     returns-2)

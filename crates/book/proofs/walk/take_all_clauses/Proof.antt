@@ -9,18 +9,6 @@ use borrow.Author.Needs.{needs}
 use Rattle.book.proofs.walk.take_all_clauses.Statement.{statement}
 use Rattle.book.proofs.walk.take_all_clauses.Tie as tie
 
-take-count-requires : tie.Need-take-count-requires
-take-count-requires c κs = search needs
-
-enum-known-n : tie.Need-enum-known-n
-enum-known-n c = search needs
-
-enum-known-count : tie.Need-enum-known-count
-enum-known-count c = search needs
-
-take-clauses-requires : tie.Need-take-clauses-requires
-take-clauses-requires c κs = search needs
-
 returns : tie.Need-returns
 returns c =
     sym
@@ -39,9 +27,9 @@ pub take-all-clauses-spec : {M : Type 1} → statement M
 take-all-clauses-spec =
     tie.close
     (tie.spec
-    take-count-requires
-    enum-known-n
-    enum-known-count
-    take-clauses-requires
+    (λ c κs. search needs)
+    (λ c. search needs)
+    (λ c. search needs)
+    (λ c κs. search needs)
     returns
     returns-2)

@@ -6,36 +6,6 @@ use borrow.Author.Needs.{needs}
 use Rattle.book.proofs.walk.take_book.Statement.{statement}
 use Rattle.book.proofs.walk.take_book.Tie as tie
 
-take-atoms-requires : tie.Need-take-atoms-requires
-take-atoms-requires c κs = search needs
-
-enum-known-n : tie.Need-enum-known-n
-enum-known-n c = search needs
-
-enum-known-atoms : tie.Need-enum-known-atoms
-enum-known-atoms c = search needs
-
-take-abducibles-requires : tie.Need-take-abducibles-requires
-take-abducibles-requires c κs = search needs
-
-enum-known-n-2 : tie.Need-enum-known-n-2
-enum-known-n-2 c = search needs
-
-enum-known-abducibles : tie.Need-enum-known-abducibles
-enum-known-abducibles c = search needs
-
-take-goal-requires : tie.Need-take-goal-requires
-take-goal-requires c κs = search needs
-
-enum-known-n-3 : tie.Need-enum-known-n-3
-enum-known-n-3 c = search needs
-
-enum-known-rest : tie.Need-enum-known-rest
-enum-known-rest c = search needs
-
-take-rules-requires : tie.Need-take-rules-requires
-take-rules-requires c κs = search needs
-
 returns : tie.Need-returns
 returns c =
     sym (ap gone (book-no-atoms _ _ (sym (c .before .before .before .take-atoms .ensures) ∙ ap taken (c .before .n .given .1))))
@@ -70,16 +40,16 @@ pub take-book-spec : {M : Type 1} → statement M
 take-book-spec =
     tie.close
     (tie.spec
-    take-atoms-requires
-    enum-known-n
-    enum-known-atoms
-    take-abducibles-requires
-    enum-known-n-2
-    enum-known-abducibles
-    take-goal-requires
-    enum-known-n-3
-    enum-known-rest
-    take-rules-requires
+    (λ c κs. search needs)
+    (λ c. search needs)
+    (λ c. search needs)
+    (λ c κs. search needs)
+    (λ c. search needs)
+    (λ c. search needs)
+    (λ c κs. search needs)
+    (λ c. search needs)
+    (λ c. search needs)
+    (λ c κs. search needs)
     returns
     returns-2
     returns-3

@@ -8,18 +8,6 @@ use borrow.Author.Needs.{needs}
 use Rattle.book.proofs.walk.take_goal.Statement.{statement}
 use Rattle.book.proofs.walk.take_goal.Tie as tie
 
-take-count-requires : tie.Need-take-count-requires
-take-count-requires c κs = search needs
-
-enum-known-n : tie.Need-enum-known-n
-enum-known-n c = search needs
-
-enum-known-count : tie.Need-enum-known-count
-enum-known-count c = search needs
-
-take-literals-requires : tie.Need-take-literals-requires
-take-literals-requires c κs = search needs
-
 returns : tie.Need-returns
 returns c =
     sym
@@ -38,9 +26,9 @@ pub take-goal-spec : {M : Type 1} → statement M
 take-goal-spec =
     tie.close
     (tie.spec
-    take-count-requires
-    enum-known-n
-    enum-known-count
-    take-literals-requires
+    (λ c κs. search needs)
+    (λ c. search needs)
+    (λ c. search needs)
+    (λ c κs. search needs)
     returns
     returns-2)

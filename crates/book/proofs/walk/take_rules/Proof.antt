@@ -6,24 +6,6 @@ use borrow.Author.Needs.{needs}
 use Rattle.book.proofs.walk.take_rules.Statement.{statement}
 use Rattle.book.proofs.walk.take_rules.Tie as tie
 
-take-all-clauses-requires : tie.Need-take-all-clauses-requires
-take-all-clauses-requires c κs = search needs
-
-enum-known-n : tie.Need-enum-known-n
-enum-known-n c = search needs
-
-enum-known-next : tie.Need-enum-known-next
-enum-known-next c = search needs
-
-take-all-constraints-requires : tie.Need-take-all-constraints-requires
-take-all-constraints-requires c κs = search needs
-
-enum-known-n-2 : tie.Need-enum-known-n-2
-enum-known-n-2 c = search needs
-
-enum-known-end : tie.Need-enum-known-end
-enum-known-end c = search needs
-
 returns : tie.Need-returns
 returns c =
     sym (rules-no-clauses _ _ _ _ _ _ (sym (c .before .before .before .take-all-clauses .ensures) ∙ ap taken (c .before .n .given .1)))
@@ -46,12 +28,12 @@ pub take-rules-spec : {M : Type 1} → statement M
 take-rules-spec =
     tie.close
     (tie.spec
-    take-all-clauses-requires
-    enum-known-n
-    enum-known-next
-    take-all-constraints-requires
-    enum-known-n-2
-    enum-known-end
+    (λ c κs. search needs)
+    (λ c. search needs)
+    (λ c. search needs)
+    (λ c κs. search needs)
+    (λ c. search needs)
+    (λ c. search needs)
     returns
     returns-2
     returns-3)

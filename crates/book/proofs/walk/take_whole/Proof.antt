@@ -6,15 +6,6 @@ use borrow.Author.Needs.{needs}
 use Rattle.book.proofs.walk.take_whole.Statement.{statement}
 use Rattle.book.proofs.walk.take_whole.Tie as tie
 
-take-book-requires : tie.Need-take-book-requires
-take-book-requires c κs = search needs
-
-enum-known-n : tie.Need-enum-known-n
-enum-known-n c = search needs
-
-enum-known-next : tie.Need-enum-known-next
-enum-known-next c = search needs
-
 returns : tie.Need-returns
 returns c =
     sym (whole-no-book _ _ (sym (c .before .before .before .take-book .ensures) ∙ ap taken (c .before .n .given .1)))
@@ -30,4 +21,4 @@ returns-3 c =
 pub take-whole-spec : {M : Type 1} → statement M
 take-whole-spec =
     tie.close
-    (tie.spec take-book-requires enum-known-n enum-known-next returns returns-2 returns-3)
+    (tie.spec (λ c κs. search needs) (λ c. search needs) (λ c. search needs) returns returns-2 returns-3)

@@ -12,30 +12,9 @@ returns : tie.Need-returns
 unfolding wrongFront
 returns c = simp (lt-leb _ _ (c .if1 .taken))
 
-shared-slice-read-if2 : tie.Need-shared-slice-read-if2
-shared-slice-read-if2 c = search needs
-
 returns-2 : tie.Need-returns-2
 unfolding wrongFront
 returns-2 c = simp (le-leb _ _ (c .before .before .if1 .left), ne-eqb _ _ (c .if2 .taken))
-
-field-at-requires : tie.Need-field-at-requires
-field-at-requires c κs = search needs
-
-field-at-requires-2 : tie.Need-field-at-requires-2
-field-at-requires-2 c κs = search needs
-
-cast-if3 : tie.Need-cast-if3
-cast-if3 c = search needs
-
-mul-if3 : tie.Need-mul-if3
-mul-if3 c = search needs
-
-cast-if3-2 : tie.Need-cast-if3-2
-cast-if3-2 c = search needs
-
-add-if3 : tie.Need-add-if3
-add-if3 c = search needs
 
 -- the length field, from its two halves
 size : (c : tie.After-field-at2) → 65536 * c .before .field-at .result + c .field-at2 .result ≡ lengthField (c .before .before .before .before .before .before .args .image .now)
@@ -67,13 +46,13 @@ wrong-front-spec =
     tie.close
     (tie.spec
     returns
-    shared-slice-read-if2
+    (λ c. search needs)
     returns-2
-    field-at-requires
-    field-at-requires-2
-    cast-if3
-    mul-if3
-    cast-if3-2
-    add-if3
+    (λ c κs. search needs)
+    (λ c κs. search needs)
+    (λ c. search needs)
+    (λ c. search needs)
+    (λ c. search needs)
+    (λ c. search needs)
     returns-3
     returns-4)

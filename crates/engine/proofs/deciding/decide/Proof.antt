@@ -23,18 +23,12 @@ front m = take (m .before .before .args .count) (m .before .before .args .sets .
 some : (m : tie.Else1) → length (front m) ≡ 0 → ⊥
 some m e = m .if1 .left (sym (length-take-le (m .before .before .args .count) (m .before .before .args .sets .now) (m .before .before .pre .0)) ∙ e)
 
-in-every-requires : tie.Need-in-every-requires
-in-every-requires c κs = search needs
-
 returns-2 : tie.Need-returns-2
 returns-2 c =
     let m = c .before .before in
     sym
     (decided-by (m .before .before .args .hypothesis) (front m) (m .before .before .args .nodes) (some m)
     ∙ choose-true _ _ (sym (c .before .in-every .ensures) ∙ c .if2 .taken))
-
-in-some-requires : tie.Need-in-some-requires
-in-some-requires c κs = search needs
 
 returns-3 : tie.Need-returns-3
 returns-3 c =
@@ -54,4 +48,4 @@ returns-4 c =
 
 pub decide-spec : {M : Type 1} → statement M
 decide-spec =
-    tie.close (tie.spec returns in-every-requires returns-2 in-some-requires returns-3 returns-4)
+    tie.close (tie.spec returns (λ c κs. search needs) returns-2 (λ c κs. search needs) returns-3 returns-4)

@@ -20,32 +20,17 @@ add-start c = omega (arith, here (c .before) .within, c .before .good .0 .0)
 field-at-requires : tie.Need-field-at-requires
 field-at-requires c κs = omega (arith, here (c .before) .within)
 
-cast-end : tie.Need-cast-end
-cast-end c = search needs
-
 add-end : tie.Need-add-end
 add-end c = let e = c .before .before in omega (arith, here e .within, c .field-at .ensures .0, e .good .0 .0)
 
 field-at-requires-2 : tie.Need-field-at-requires-2
 field-at-requires-2 c κs = let e = c .before .before in omega (arith, here e .turn, here e .within)
 
-cast-count : tie.Need-cast-count
-cast-count c = search needs
-
 add-turn : tie.Need-add-turn
 add-turn c = let e = c .before .before .before in omega (arith, here e .turn, here e .within, e .good .0 .0)
 
-mul-turn : tie.Need-mul-turn
-mul-turn c = search needs
-
 add-turn-2 : tie.Need-add-turn-2
 add-turn-2 c = let e = c .before .before .before in omega (arith, here e .turn, here e .within, c .field-at2 .ensures .0, e .good .0 .0)
-
-sub-first-false : tie.Need-sub-first-false
-sub-first-false c = search needs
-
-part-first-false-start : tie.Need-part-first-false-start
-part-first-false-start c = search needs
 
 part-first-false-end : tie.Need-part-first-false-end
 part-first-false-end c = let e = c .before .before .before .before in omega (arith, here e .turn, here e .within, c .before .field-at2 .ensures .0)
@@ -86,15 +71,15 @@ holds-spec =
     (tie.spec
     add-start
     field-at-requires
-    cast-end
+    (λ c. search needs)
     add-end
     field-at-requires-2
-    cast-count
+    (λ c. search needs)
     add-turn
-    mul-turn
+    (λ c. search needs)
     add-turn-2
-    sub-first-false
-    part-first-false-start
+    (λ c. search needs)
+    (λ c. search needs)
     part-first-false-end
     first-false-requires
     returns

@@ -11,18 +11,9 @@ use Rattle.judging.proofs.places.clauses.Tie as tie
 field-at-requires : tie.Need-field-at-requires
 field-at-requires c κs = let sh = shows (c .before .args .image .now) (c .before .pre) in omega (arith, sh .front, sh .fits)
 
-cast-goals : tie.Need-cast-goals
-cast-goals c = search needs
-
-mul-result : tie.Need-mul-result
-mul-result c = search needs
-
-add-result : tie.Need-add-result
-add-result c = search needs
-
 returns : tie.Need-returns
 unfolding clauseCount
 returns c = ap (λ (n : ℕ). 11 + 2 * n) (c .field-at .ensures .0)
 
 pub clauses-spec : {M : Type 1} → statement M
-clauses-spec = tie.close (tie.spec field-at-requires cast-goals mul-result add-result returns)
+clauses-spec = tie.close (tie.spec field-at-requires (λ c. search needs) (λ c. search needs) (λ c. search needs) returns)

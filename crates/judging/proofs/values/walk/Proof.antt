@@ -10,9 +10,6 @@ use borrow.Author.Needs.{needs}
 use Rattle.judging.proofs.values.walk.Statement.{statement}
 use Rattle.judging.proofs.values.walk.Tie as tie
 
-is-there-requires : tie.Need-is-there-requires
-is-there-requires c κs = search needs
-
 field-at-requires : tie.Need-field-at-requires
 field-at-requires c κs = leb-true _ _ (sym (c .before .is-there .ensures) ∙ c .if1 .taken)
 
@@ -27,4 +24,4 @@ unfolding metAt
 returns-2 c = sym (choose-false _ _ (sym (c .before .is-there .ensures) ∙ c .if1 .left))
 
 pub walk-spec : {M : Type 1} → statement M
-walk-spec = tie.close (tie.spec is-there-requires field-at-requires returns returns-2)
+walk-spec = tie.close (tie.spec (λ c κs. search needs) field-at-requires returns returns-2)

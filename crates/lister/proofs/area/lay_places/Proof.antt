@@ -9,9 +9,6 @@ use Rattle.book.specs.Shown.{skip}
 use Rattle.lister.specs.Tables.{placed, skip-first, skip-next, placed-first, placed-next, record-there}
 use Rattle.lister.proofs.area.lay_places.Statement.{statement}
 use Rattle.lister.proofs.area.lay_places.Tie as tie
-use Rattle.lister.proofs.area.lay_places.Reads as reads
-use Rattle.lister.proofs.area.lay_places.Lts as lts
-use Rattle.book.proofs.fields.field_at.Reads as field-at-reads
 
 abbrev Inv-loop : tie.InvT-loop
 Inv-loop image work₀ base start count at₀ i₀ work at i = (i ≤ count) × (at ≡ skip image start i) × (work ≡ placed image work₀ base start i) × (length work ≡ length work₀)

@@ -5,9 +5,6 @@ use lib.ListN.{length-set}
 use Rattle.lister.specs.Tables.{Linking, linking-start, linking-end, linking-step, head-of}
 use Rattle.lister.proofs.area.link_clauses.Statement.{statement}
 use Rattle.lister.proofs.area.link_clauses.Tie as tie
-use Rattle.lister.proofs.area.link_clauses.Reads as reads
-use Rattle.lister.proofs.area.link_clauses.Lts as lts
-use Rattle.book.proofs.fields.field_at.Reads as field-at-reads
 
 abbrev Inv-loop : tie.InvT-loop
 Inv-loop image work₀ count c₀ work c = Linking image work₀ count work c

@@ -8,8 +8,6 @@ use Rattle.sets.specs.Kept.{zeros}
 use Rattle.lister.specs.Tables.{wiping}
 use Rattle.lister.proofs.area.wipe.Statement.{statement}
 use Rattle.lister.proofs.area.wipe.Tie as tie
-use Rattle.lister.proofs.area.wipe.Reads as reads
-use Rattle.lister.proofs.area.wipe.Lts as lts
 
 abbrev Inv-loop : tie.InvT-loop
 Inv-loop work₀ n i₀ work i = (i ≤ n) × (work ≡ zeros i ++ drop i work₀) × (length work ≡ length work₀)

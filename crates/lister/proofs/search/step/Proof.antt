@@ -7,16 +7,6 @@ use Rattle.lister.specs.Search.{step-done, step-waiting, step-back, step
 use borrow.Author.Needs.{needs}
 use Rattle.lister.proofs.search.step.Statement.{statement}
 use Rattle.lister.proofs.search.step.Tie as tie
-use Rattle.lister.proofs.search.step.Reads as reads
-use Rattle.lister.proofs.search.step.Lts as lts
-use Rattle.lister.proofs.walk.advance.Reads as advance-reads
-use Rattle.lister.proofs.search.counted.Reads as counted-reads
-use Rattle.lister.proofs.search.ended.Reads as ended-reads
-use Rattle.lister.proofs.search.note.Reads as note-reads
-use Rattle.lister.proofs.walk.visit.Reads as visit-reads
-
-ended-requires : tie.Need-ended-requires
-ended-requires c κs = search needs
 
 returns : tie.Need-returns
 returns c = step-done _ _ _ _ _ _ (c .before .before .before .before .before .before .before .before .pre .0) _ (c .before .before .before .if1 .taken) (c .before .if2 .taken) (c .ended .ensures)
@@ -24,35 +14,20 @@ returns c = step-done _ _ _ _ _ _ (c .before .before .before .before .before .be
 advance-requires : tie.Need-advance-requires
 advance-requires c κs = (step-waiting _ _ _ _ _ _ (c .before .before .before .before .before .before .before .before .pre .0) (c .before .before .before .if1 .taken) (c .before .if2 .left), c .before .before .before .before .before .before .before .before .pre .1)
 
-same-length : tie.Need-same-length
-same-length c = search needs
-
 returns-2 : tie.Need-returns-2
 returns-2 c = step-back _ _ _ _ _ _ (c .before .before .before .before .before .before .before .before .before .before .before .pre .0) _ _ (c .before .before .before .before .before .before .if1 .taken) (c .before .before .advance .ensures)
-
-ended-requires-2 : tie.Need-ended-requires-2
-ended-requires-2 c κs = search needs
 
 returns-3 : tie.Need-returns-3
 returns-3 c = step-short _ _ _ _ _ _ (c .before .before .before .before .before .before .before .before .pre .0) _ (c .before .before .before .if1 .left) (c .before .if3 .taken) (c .ended2 .ensures)
 
-counted-requires : tie.Need-counted-requires
-counted-requires c κs = search needs
-
 note-requires : tie.Need-note-requires
 note-requires c κs = let h = c .before .before .before .before .before .before .before .before .before .before .pre .0 in (omega (arith, h .count, ap (λ (r : Run). r .count) (c .before .before .counted .ensures)), h .entries)
-
-same-length-2 : tie.Need-same-length-2
-same-length-2 c = search needs
 
 returns-4 : tie.Need-returns-4
 returns-4 c = step-noted _ _ _ _ _ _ (c .before .before .before .before .before .before .before .before .before .before .before .before .before .pre .0) _ _ _ (c .before .before .before .before .before .before .before .before .if1 .left) (c .before .before .before .before .before .before .if3 .left) (c .before .before .before .before .if4 .taken) (c .before .before .before .before .before .counted .ensures) (c .before .before .note .ensures)
 
 visit-requires : tie.Need-visit-requires
 visit-requires c κs = (step-ready _ _ _ _ _ _ (c .before .before .before .before .before .before .before .before .before .before .pre .0) _ (c .before .before .before .before .before .if1 .left) (c .before .before .counted .ensures), c .before .before .before .before .before .before .before .before .before .before .pre .1, omega (arith, positive _ (c .before .if4 .left), ap (λ (r : Run). r .kind) (c .before .before .counted .ensures)))
-
-same-length-3 : tie.Need-same-length-3
-same-length-3 c = search needs
 
 returns-5 : tie.Need-returns-5
 returns-5 c = step-visited _ _ _ _ _ _ (c .before .before .before .before .before .before .before .before .before .before .before .before .before .pre .0) _ _ _ (c .before .before .before .before .before .before .before .before .if1 .left) (c .before .before .before .before .before .before .if3 .left) (positive _ (c .before .before .before .before .if4 .left)) (c .before .before .before .before .before .counted .ensures) (c .before .before .visit .ensures)
@@ -61,17 +36,17 @@ pub step-spec : {M : Type 1} → statement M
 step-spec =
     tie.close
     (tie.spec
-    ended-requires
+    (λ c κs. search needs)
     returns
     advance-requires
-    same-length
+    (λ c. search needs)
     returns-2
-    ended-requires-2
+    (λ c κs. search needs)
     returns-3
-    counted-requires
+    (λ c κs. search needs)
     note-requires
-    same-length-2
+    (λ c. search needs)
     returns-4
     visit-requires
-    same-length-3
+    (λ c. search needs)
     returns-5)

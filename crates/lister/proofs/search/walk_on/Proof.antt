@@ -6,9 +6,6 @@ use Rattle.lister.specs.Steps.{State, goes-on, ahead}
 use Rattle.lister.specs.Search.{still-searching, stopped-ending}
 use Rattle.lister.proofs.search.walk_on.Statement.{statement}
 use Rattle.lister.proofs.search.walk_on.Tie as tie
-use Rattle.lister.proofs.search.walk_on.Reads as reads
-use Rattle.lister.proofs.search.walk_on.Lts as lts
-use Rattle.lister.proofs.search.step.Reads as step-reads
 
 abbrev Inv-loop : tie.InvT-loop
 Inv-loop image budget abducibles sets₀ work₀ r₀ sets work r = State image budget (fieldAt image 7) sets work r × (length sets ≡ length sets₀) × (length work ≡ length work₀) × (drop 16384 work ≡ drop 16384 work₀)

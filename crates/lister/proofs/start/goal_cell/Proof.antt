@@ -6,22 +6,14 @@ use Rattle.lister.specs.Start.{goalCell}
 use borrow.Author.Needs.{needs}
 use Rattle.lister.proofs.start.goal_cell.Statement.{statement}
 use Rattle.lister.proofs.start.goal_cell.Tie as tie
-use Rattle.lister.proofs.start.goal_cell.Reads as reads
-use Rattle.lister.proofs.start.goal_cell.Lts as lts
 
 returns : tie.Need-returns
 unfolding goalCell
 returns c = sym (choose-true _ _ (eq-eqb _ _ (c .if1 .taken)))
-
-mul-t4 : tie.Need-mul-t4
-mul-t4 c = search needs
-
-add-t5 : tie.Need-add-t5
-add-t5 c = search needs
 
 returns-2 : tie.Need-returns-2
 unfolding goalCell
 returns-2 c = sym (choose-false _ _ (ne-eqb _ _ (c .if1 .left)))
 
 pub goal-cell-spec : {M : Type 1} → statement M
-goal-cell-spec = tie.close (tie.spec returns mul-t4 add-t5 returns-2)
+goal-cell-spec = tie.close (tie.spec returns (λ c. search needs) (λ c. search needs) returns-2)

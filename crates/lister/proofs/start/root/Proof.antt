@@ -8,26 +8,6 @@ use Rattle.lister.specs.Start.{grounded, goalCell, rootRun}
 use borrow.Author.Needs.{needs}
 use Rattle.lister.proofs.start.root.Statement.{statement}
 use Rattle.lister.proofs.start.root.Tie as tie
-use Rattle.lister.proofs.start.root.Reads as reads
-use Rattle.lister.proofs.start.root.Lts as lts
-use Rattle.lister.proofs.frames.push.Reads as push-reads
-use Rattle.lister.proofs.start.goal_cell.Reads as goal-cell-reads
-use Rattle.lister.proofs.start.rules_cell.Reads as rules-cell-reads
-
-rules-cell-requires : tie.Need-rules-cell-requires
-rules-cell-requires c κs = search needs
-
-goal-cell-requires : tie.Need-goal-cell-requires
-goal-cell-requires c κs = search needs
-
-push-requires : tie.Need-push-requires
-push-requires c κs = search needs
-
-push-requires-2 : tie.Need-push-requires-2
-push-requires-2 c κs = search needs
-
-same-length : tie.Need-same-length
-same-length c = search needs
 
 returns : tie.Need-returns
 unfolding grounded
@@ -41,9 +21,9 @@ pub root-spec : {M : Type 1} → statement M
 root-spec =
     tie.close
     (tie.spec
-    rules-cell-requires
-    goal-cell-requires
-    push-requires
-    push-requires-2
-    same-length
+    (λ c κs. search needs)
+    (λ c κs. search needs)
+    (λ c κs. search needs)
+    (λ c κs. search needs)
+    (λ c. search needs)
     returns)

@@ -5,8 +5,6 @@ use Rattle.base.specs.Bools.{choose-true, choose-false}
 use Rattle.lister.specs.Start.{rulesCell}
 use Rattle.lister.proofs.start.rules_cell.Statement.{statement}
 use Rattle.lister.proofs.start.rules_cell.Tie as tie
-use Rattle.lister.proofs.start.rules_cell.Reads as reads
-use Rattle.lister.proofs.start.rules_cell.Lts as lts
 
 returns : tie.Need-returns
 unfolding rulesCell

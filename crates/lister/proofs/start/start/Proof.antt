@@ -5,34 +5,12 @@ use Rattle.lister.specs.Start.{counts, front-there, clauses-few, clauses
 use borrow.Author.Needs.{needs}
 use Rattle.lister.proofs.start.start.Statement.{statement}
 use Rattle.lister.proofs.start.start.Tie as tie
-use Rattle.lister.proofs.start.start.Reads as reads
-use Rattle.lister.proofs.start.start.Lts as lts
-use Rattle.book.proofs.fields.field_at.Reads as field-at-reads
-use Rattle.lister.proofs.area.lay_places.Reads as lay-places-reads
-use Rattle.lister.proofs.area.link_clauses.Reads as link-clauses-reads
-use Rattle.lister.proofs.area.wipe.Reads as wipe-reads
-use Rattle.lister.proofs.start.root.Reads as root-reads
-
-wipe-requires : tie.Need-wipe-requires
-wipe-requires c κs = search needs
 
 field-at-requires : tie.Need-field-at-requires
 field-at-requires c κs = let n = counts _ (c .before .before .before .before .before .before .pre .0) in omega (arith, n .front, n .there, n .place)
 
-mul-clauses : tie.Need-mul-clauses
-mul-clauses c = search needs
-
-add-clauses : tie.Need-add-clauses
-add-clauses c = search needs
-
-cast-at : tie.Need-cast-at
-cast-at c = search needs
-
 field-at-requires-2 : tie.Need-field-at-requires-2
 field-at-requires-2 c κs = front-there _ (c .before .before .before .before .before .before .before .args .work .now) (c .before .before .before .before .before .before .before .pre .0) (c .before .before .before .before .before .before .before .pre .1) _ 0 (c .field-at .ensures .0)
-
-add-lay-places : tie.Need-add-lay-places
-add-lay-places c = search needs
 
 lay-places-requires : tie.Need-lay-places-requires
 lay-places-requires c κs =
@@ -45,9 +23,6 @@ link-clauses-requires : tie.Need-link-clauses-requires
 link-clauses-requires c κs =
     let p = c .before .before .before .before .before .before .before .before .before .before .before .before .before .pre in
     clauses-placed _ (c .before .before .before .before .before .before .before .before .before .before .before .before .before .args .work .now) (p .0) (p .1) _ _ (c .before .before .before .before .before .before .field-at .ensures .0) (c .before .before .before .before .before .field-at2 .ensures .0) _ _ (c .before .before .before .before .before .before .before .before .before .wipe .ensures) (c .before .before .before .lay-places .ensures .1)
-
-cast-place : tie.Need-cast-place
-cast-place c = search needs
 
 field-at-requires-3 : tie.Need-field-at-requires-3
 field-at-requires-3 c κs =
@@ -87,16 +62,16 @@ pub start-spec : {M : Type 1} → statement M
 start-spec =
     tie.close
     (tie.spec
-    wipe-requires
+    (λ c κs. search needs)
     field-at-requires
-    mul-clauses
-    add-clauses
-    cast-at
+    (λ c. search needs)
+    (λ c. search needs)
+    (λ c. search needs)
     field-at-requires-2
-    add-lay-places
+    (λ c. search needs)
     lay-places-requires
     link-clauses-requires
-    cast-place
+    (λ c. search needs)
     field-at-requires-3
     add-lay-places-2
     lay-places-requires-2

@@ -6,12 +6,6 @@ use Rattle.lister.specs.Tasks.{restOfBreak}
 use borrow.Author.Needs.{needs}
 use Rattle.lister.proofs.walk.after_break.Statement.{statement}
 use Rattle.lister.proofs.walk.after_break.Tie as tie
-use Rattle.lister.proofs.walk.after_break.Reads as reads
-use Rattle.lister.proofs.walk.after_break.Lts as lts
-use Rattle.lister.proofs.frames.cell_of.Reads as cell-of-reads
-
-cell-of-requires : tie.Need-cell-of-requires
-cell-of-requires c κs = search needs
 
 returns : tie.Need-returns
 unfolding restOfBreak
@@ -22,4 +16,4 @@ unfolding restOfBreak
 returns-2 c = sym (choose-false _ _ (ne-eqb _ _ (c .if1 .left)))
 
 pub after-break-spec : {M : Type 1} → statement M
-after-break-spec = tie.close (tie.spec cell-of-requires returns returns-2)
+after-break-spec = tie.close (tie.spec (λ c κs. search needs) returns returns-2)

@@ -6,26 +6,14 @@ use Rattle.lister.specs.Tasks.{restOfRule}
 use borrow.Author.Needs.{needs}
 use Rattle.lister.proofs.walk.after_rule.Statement.{statement}
 use Rattle.lister.proofs.walk.after_rule.Tie as tie
-use Rattle.lister.proofs.walk.after_rule.Reads as reads
-use Rattle.lister.proofs.walk.after_rule.Lts as lts
-use Rattle.lister.proofs.frames.cell_of.Reads as cell-of-reads
-
-add-if1 : tie.Need-add-if1
-add-if1 c = search needs
-
-add-t7 : tie.Need-add-t7
-add-t7 c = search needs
 
 returns : tie.Need-returns
 unfolding restOfRule
 returns c = sym (choose-true _ _ (lt-ltb _ _ (c .if1 .taken)))
-
-cell-of-requires : tie.Need-cell-of-requires
-cell-of-requires c κs = search needs
 
 returns-2 : tie.Need-returns-2
 unfolding restOfRule
 returns-2 c = c .cell-of .ensures ∙ sym (choose-false _ _ (le-ltb _ _ (c .before .if1 .left)))
 
 pub after-rule-spec : {M : Type 1} → statement M
-after-rule-spec = tie.close (tie.spec add-if1 add-t7 returns cell-of-requires returns-2)
+after-rule-spec = tie.close (tie.spec (λ c. search needs) (λ c. search needs) returns (λ c κs. search needs) returns-2)

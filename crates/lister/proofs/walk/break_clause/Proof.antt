@@ -8,30 +8,9 @@ use Rattle.lister.specs.Pieces.{room, short, break-places, break-visited
 use borrow.Author.Needs.{needs}
 use Rattle.lister.proofs.walk.break_clause.Statement.{statement}
 use Rattle.lister.proofs.walk.break_clause.Tie as tie
-use Rattle.lister.proofs.walk.break_clause.Reads as reads
-use Rattle.lister.proofs.walk.break_clause.Lts as lts
-use Rattle.book.proofs.fields.field_at.Reads as field-at-reads
-use Rattle.lister.proofs.frames.push.Reads as push-reads
-use Rattle.lister.proofs.walk.after_break.Reads as after-break-reads
-use Rattle.lister.proofs.walk.idle.Reads as idle-reads
-
-cast-clause : tie.Need-cast-clause
-cast-clause c = search needs
-
-add-place : tie.Need-add-place
-add-place c = search needs
-
-mul-place : tie.Need-mul-place
-mul-place c = search needs
 
 slice-read-place : tie.Need-slice-read-place
 slice-read-place c = let p = c .before .before .before .before .pre in omega (arith, break-places _ _ _ _ (p .0) (p .1) .clause, room _ _ _ _ (p .0) .2)
-
-add-next : tie.Need-add-next
-add-next c = search needs
-
-mul-next : tie.Need-mul-next
-mul-next c = search needs
 
 slice-read-next : tie.Need-slice-read-next
 slice-read-next c = let p = c .before .before .before .before .before .pre in omega (arith, break-places _ _ _ _ (p .0) (p .1) .clause, room _ _ _ _ (p .0) .2)
@@ -54,18 +33,6 @@ after-break-requires c κs = let p = c .before .before .before .before .before .
 add-push : tie.Need-add-push
 add-push c = let p = c .before .before .before .before .before .before .before .before .before .pre in omega (arith, break-places _ _ _ _ (p .0) (p .1) .place, short _ _ _ _ (p .0))
 
-push-requires : tie.Need-push-requires
-push-requires c κs = search needs
-
-add-idle : tie.Need-add-idle
-add-idle c = search needs
-
-idle-requires : tie.Need-idle-requires
-idle-requires c κs = search needs
-
-same-length : tie.Need-same-length
-same-length c = search needs
-
 returns : tie.Need-returns
 returns c =
     let p = c .before .before .before .before .before .before .before .before .before .before .before .before .before .before .pre in
@@ -79,12 +46,12 @@ pub break-clause-spec : {M : Type 1} → statement M
 break-clause-spec =
     tie.close
     (tie.spec
-    cast-clause
-    add-place
-    mul-place
+    (λ c. search needs)
+    (λ c. search needs)
+    (λ c. search needs)
     slice-read-place
-    add-next
-    mul-next
+    (λ c. search needs)
+    (λ c. search needs)
     slice-read-next
     cast-at
     add-stop
@@ -92,8 +59,8 @@ break-clause-spec =
     add-stop-2
     after-break-requires
     add-push
-    push-requires
-    add-idle
-    idle-requires
-    same-length
+    (λ c κs. search needs)
+    (λ c. search needs)
+    (λ c κs. search needs)
+    (λ c. search needs)
     returns)

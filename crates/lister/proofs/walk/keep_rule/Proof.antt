@@ -8,21 +8,6 @@ use Rattle.lister.specs.Pieces.{room, short, keep-places, keep-visited}
 use borrow.Author.Needs.{needs}
 use Rattle.lister.proofs.walk.keep_rule.Statement.{statement}
 use Rattle.lister.proofs.walk.keep_rule.Tie as tie
-use Rattle.lister.proofs.walk.keep_rule.Reads as reads
-use Rattle.lister.proofs.walk.keep_rule.Lts as lts
-use Rattle.book.proofs.fields.field_at.Reads as field-at-reads
-use Rattle.lister.proofs.frames.push.Reads as push-reads
-use Rattle.lister.proofs.walk.after_rule.Reads as after-rule-reads
-use Rattle.lister.proofs.walk.idle.Reads as idle-reads
-
-cast-rule : tie.Need-cast-rule
-cast-rule c = search needs
-
-add-place : tie.Need-add-place
-add-place c = search needs
-
-mul-place : tie.Need-mul-place
-mul-place c = search needs
 
 slice-read-place : tie.Need-slice-read-place
 slice-read-place c = let p = c .before .before .before .before .pre in omega (arith, keep-places _ _ _ _ (p .0) (p .1) .rule, room _ _ _ _ (p .0) .2)
@@ -38,9 +23,6 @@ add-field-at c = let p = c .before .before .before .before .pre in omega (arith,
 
 field-at-requires : tie.Need-field-at-requires
 field-at-requires c κs = let p = c .before .before .before .before .pre in omega (arith, keep-places _ _ _ _ (p .0) (p .1) .place)
-
-mul-turn : tie.Need-mul-turn
-mul-turn c = search needs
 
 add-turn-2 : tie.Need-add-turn-2
 add-turn-2 c = let p = c .before .before .before .before .before .pre in omega (arith, keep-places _ _ _ _ (p .0) (p .1) .turn, c .field-at .ensures .0)
@@ -60,18 +42,6 @@ after-rule-requires c κs = let p = c .before .before .before .before .before .b
 add-push : tie.Need-add-push
 add-push c = let p = c .before .before .before .before .before .before .before .before .before .pre in omega (arith, keep-places _ _ _ _ (p .0) (p .1) .place, short _ _ _ _ (p .0))
 
-push-requires : tie.Need-push-requires
-push-requires c κs = search needs
-
-add-idle : tie.Need-add-idle
-add-idle c = search needs
-
-idle-requires : tie.Need-idle-requires
-idle-requires c κs = search needs
-
-same-length : tie.Need-same-length
-same-length c = search needs
-
 returns : tie.Need-returns
 returns c =
     let p = c .before .before .before .before .before .before .before .before .before .before .before .before .before .before .pre in
@@ -85,23 +55,23 @@ pub keep-rule-spec : {M : Type 1} → statement M
 keep-rule-spec =
     tie.close
     (tie.spec
-    cast-rule
-    add-place
-    mul-place
+    (λ c. search needs)
+    (λ c. search needs)
+    (λ c. search needs)
     slice-read-place
     cast-at
     add-turn
     add-field-at
     field-at-requires
-    mul-turn
+    (λ c. search needs)
     add-turn-2
     add-stop
     field-at-requires-2
     add-stop-2
     after-rule-requires
     add-push
-    push-requires
-    add-idle
-    idle-requires
-    same-length
+    (λ c κs. search needs)
+    (λ c. search needs)
+    (λ c κs. search needs)
+    (λ c. search needs)
     returns)

@@ -6,26 +6,14 @@ use Rattle.lister.specs.Tasks.{restOf}
 use borrow.Author.Needs.{needs}
 use Rattle.lister.proofs.walk.rest_of.Statement.{statement}
 use Rattle.lister.proofs.walk.rest_of.Tie as tie
-use Rattle.lister.proofs.walk.rest_of.Reads as reads
-use Rattle.lister.proofs.walk.rest_of.Lts as lts
-use Rattle.lister.proofs.frames.cell_of.Reads as cell-of-reads
-
-add-if1 : tie.Need-add-if1
-add-if1 c = search needs
-
-add-t8 : tie.Need-add-t8
-add-t8 c = search needs
 
 returns : tie.Need-returns
 unfolding restOf
 returns c = sym (choose-true _ _ (lt-ltb _ _ (c .if1 .taken)))
-
-cell-of-requires : tie.Need-cell-of-requires
-cell-of-requires c κs = search needs
 
 returns-2 : tie.Need-returns-2
 unfolding restOf
 returns-2 c = c .cell-of .ensures ∙ sym (choose-false _ _ (le-ltb _ _ (c .before .if1 .left)))
 
 pub rest-of-spec : {M : Type 1} → statement M
-rest-of-spec = tie.close (tie.spec add-if1 add-t8 returns cell-of-requires returns-2)
+rest-of-spec = tie.close (tie.spec (λ c. search needs) (λ c. search needs) returns (λ c κs. search needs) returns-2)

@@ -6,56 +6,23 @@ use Rattle.lister.specs.Pieces.{room, want-there, want-link, want-atom, 
 use borrow.Author.Needs.{needs}
 use Rattle.lister.proofs.walk.want.Statement.{statement}
 use Rattle.lister.proofs.walk.want.Tie as tie
-use Rattle.lister.proofs.walk.want.Reads as reads
-use Rattle.lister.proofs.walk.want.Lts as lts
-use Rattle.book.proofs.fields.field_at.Reads as field-at-reads
-use Rattle.lister.proofs.walk.bit.Reads as bit-reads
-use Rattle.lister.proofs.walk.due.Reads as due-reads
-use Rattle.lister.proofs.walk.enter.Reads as enter-reads
-use Rattle.lister.proofs.walk.idle.Reads as idle-reads
-use Rattle.lister.proofs.walk.rest_of.Reads as rest-of-reads
-use Rattle.lister.proofs.walk.wanted.Reads as wanted-reads
-
-cast-from : tie.Need-cast-from
-cast-from c = search needs
 
 field-at-requires : tie.Need-field-at-requires
 field-at-requires c κs = want-there _ _ _ _ (c .before .before .before .pre .0) (c .before .before .before .pre .1) (c .before .before .before .pre .2)
-
-wanted-requires : tie.Need-wanted-requires
-wanted-requires c κs = search needs
-
-cast-place : tie.Need-cast-place
-cast-place c = search needs
-
-mul-mark : tie.Need-mul-mark
-mul-mark c = search needs
 
 slice-read-mark : tie.Need-slice-read-mark
 slice-read-mark c =
     let p = c .before .before .before .before .before .before .pre in
     omega (arith, want-atom _ _ _ _ (p .0) (p .1) (p .2) (c .before .wanted .result) (c .before .wanted .ensures ∙ ap (wantedOf (c .before .before .before .before .before .before .args .r .kind)) (c .before .before .field-at .ensures .0)), room _ _ _ _ (p .0) .2)
 
-add-if1 : tie.Need-add-if1
-add-if1 c = search needs
-
 rest-of-requires : tie.Need-rest-of-requires
 rest-of-requires c κs = let p = c .before .before .before .before .before .before .before .before .pre in want-link _ _ _ _ (p .0) (p .1) (p .2)
-
-due-requires : tie.Need-due-requires
-due-requires c κs = search needs
-
-same-length : tie.Need-same-length
-same-length c = search needs
 
 returns : tie.Need-returns
 returns c =
     let p = c .before .before .before .before .before .before .before .before .before .before .pre in
     so-visited _ _ _ _ (p .0) (p .1) (p .2) (c .before .before .before .before .before .wanted .result) (c .before .before .before .before .before .wanted .ensures ∙ ap (wantedOf (c .before .before .before .before .before .before .before .before .before .before .args .r .kind)) (c .before .before .before .before .before .before .field-at .ensures .0))
     (c .before .rest-of .result) _ (c .before .rest-of .ensures) (c .before .before .before .if1 .taken) (c .due .ensures)
-
-idle-requires : tie.Need-idle-requires
-idle-requires c κs = search needs
 
 returns-2 : tie.Need-returns-2
 returns-2 c =
@@ -71,9 +38,6 @@ enter-requires c κs =
     let p = c .before .before .before .before .before .before .before .before .before .before .before .before .pre in
     (want-atom _ _ _ _ (p .0) (p .1) (p .2) (c .before .before .before .before .before .before .before .wanted .result) (c .before .before .before .before .before .before .before .wanted .ensures ∙ ap (wantedOf (c .before .before .before .before .before .before .before .before .before .before .before .before .args .r .kind)) (c .before .before .before .before .before .before .before .before .field-at .ensures .0)), room _ _ _ _ (p .0) .1)
 
-add-due : tie.Need-add-due
-add-due c = search needs
-
 bit-requires : tie.Need-bit-requires
 bit-requires c κs =
     let p = c .before .before .before .before .before .before .before .before .before .before .before .before .before .before .before .pre in
@@ -85,23 +49,11 @@ add-due-2 c =
     let fits = takes-fits _ _ _ _ (p .0) (p .1) (p .2) (c .before .before .before .before .before .before .before .before .before .before .before .before .wanted .result) (c .before .before .before .before .before .before .before .before .before .before .before .before .wanted .ensures ∙ ap (wantedOf (c .before .before .before .before .before .before .before .before .before .before .before .before .before .before .before .before .before .args .r .kind)) (c .before .before .before .before .before .before .before .before .before .before .before .before .before .field-at .ensures .0)) (c .before .before .before .before .before .before .before .before .before .if2 .left) (c .before .before .before .before .before .before .if3 .taken) .1 in
     omega (arith, fits, c .before .bit .ensures)
 
-due-requires-2 : tie.Need-due-requires-2
-due-requires-2 c κs = search needs
-
-same-length-2 : tie.Need-same-length-2
-same-length-2 c = search needs
-
 returns-3 : tie.Need-returns-3
 returns-3 c =
     let p = c .before .before .before .before .before .before .before .before .before .before .before .before .before .before .before .before .before .before .pre in
     takes-visited _ _ _ _ (p .0) (p .1) (p .2) (c .before .before .before .before .before .before .before .before .before .before .before .before .before .wanted .result) (c .before .before .before .before .before .before .before .before .before .before .before .before .before .wanted .ensures ∙ ap (wantedOf (c .before .before .before .before .before .before .before .before .before .before .before .before .before .before .before .before .before .before .args .r .kind)) (c .before .before .before .before .before .before .before .before .before .before .before .before .before .before .field-at .ensures .0))
     (c .before .before .before .before .before .before .before .before .rest-of2 .result) (c .before .before .before .before .before .before .before .before .rest-of2 .ensures) (c .before .before .before .before .before .before .before .before .before .before .if2 .left) _ 0 (c .before .before .before .before .before .enter .ensures) _ (c .before .before .bit .result) refl (c .before .before .before .before .before .before .before .if3 .taken) (c .before .before .bit .ensures) (c .due2 .ensures)
-
-add-first : tie.Need-add-first
-add-first c = search needs
-
-mul-first : tie.Need-mul-first
-mul-first c = search needs
 
 slice-read-first : tie.Need-slice-read-first
 slice-read-first c =
@@ -112,15 +64,6 @@ enter-requires-2 : tie.Need-enter-requires-2
 enter-requires-2 c κs =
     let p = c .before .before .before .before .before .before .before .before .before .before .before .before .before .before .pre in
     (want-atom _ _ _ _ (p .0) (p .1) (p .2) (c .before .before .before .before .before .before .before .before .before .wanted .result) (c .before .before .before .before .before .before .before .before .before .wanted .ensures ∙ ap (wantedOf (c .before .before .before .before .before .before .before .before .before .before .before .before .before .before .args .r .kind)) (c .before .before .before .before .before .before .before .before .before .before .field-at .ensures .0)), room _ _ _ _ (p .0) .1)
-
-add-idle : tie.Need-add-idle
-add-idle c = search needs
-
-idle-requires-2 : tie.Need-idle-requires-2
-idle-requires-2 c κs = search needs
-
-same-length-3 : tie.Need-same-length-3
-same-length-3 c = search needs
 
 returns-4 : tie.Need-returns-4
 returns-4 c =
@@ -133,32 +76,11 @@ enter-requires-3 c κs =
     let p = c .before .before .before .before .before .before .before .before .before .before .before .before .before .before .pre in
     (want-atom _ _ _ _ (p .0) (p .1) (p .2) (c .before .before .before .before .before .before .before .before .before .wanted .result) (c .before .before .before .before .before .before .before .before .before .wanted .ensures ∙ ap (wantedOf (c .before .before .before .before .before .before .before .before .before .before .before .before .before .before .args .r .kind)) (c .before .before .before .before .before .before .before .before .before .before .field-at .ensures .0)), room _ _ _ _ (p .0) .1)
 
-add-due-3 : tie.Need-add-due-3
-add-due-3 c = search needs
-
-due-requires-3 : tie.Need-due-requires-3
-due-requires-3 c κs = search needs
-
-same-length-4 : tie.Need-same-length-4
-same-length-4 c = search needs
-
 returns-5 : tie.Need-returns-5
 returns-5 c =
     let p = c .before .before .before .before .before .before .before .before .before .before .before .before .before .before .before .before .before .before .before .pre in
     denies-none-visited _ _ _ _ (p .0) (p .1) (p .2) (c .before .before .before .before .before .before .before .before .before .before .before .before .before .before .wanted .result) (c .before .before .before .before .before .before .before .before .before .before .before .before .before .before .wanted .ensures ∙ ap (wantedOf (c .before .before .before .before .before .before .before .before .before .before .before .before .before .before .before .before .before .before .before .args .r .kind)) (c .before .before .before .before .before .before .before .before .before .before .before .before .before .before .before .field-at .ensures .0))
     (c .before .before .before .before .before .before .before .before .before .rest-of2 .result) (c .before .before .before .before .before .before .before .before .before .rest-of2 .ensures) (c .before .before .before .before .before .before .before .before .before .before .before .if2 .left) _ 0 (c .before .before .before .before .enter3 .ensures) _ refl (c .before .before .before .before .before .before .before .before .if3 .left) (c .before .before .before .before .before .before .if4 .left) (c .before .if5 .taken) (c .due3 .ensures)
-
-add-t13 : tie.Need-add-t13
-add-t13 c = search needs
-
-add-due-4 : tie.Need-add-due-4
-add-due-4 c = search needs
-
-due-requires-4 : tie.Need-due-requires-4
-due-requires-4 c κs = search needs
-
-same-length-5 : tie.Need-same-length-5
-same-length-5 c = search needs
 
 returns-6 : tie.Need-returns-6
 returns-6 c =
@@ -170,42 +92,42 @@ pub want-spec : {M : Type 1} → statement M
 want-spec =
     tie.close
     (tie.spec
-    cast-from
+    (λ c. search needs)
     field-at-requires
-    wanted-requires
-    cast-place
-    mul-mark
+    (λ c κs. search needs)
+    (λ c. search needs)
+    (λ c. search needs)
     slice-read-mark
-    add-if1
+    (λ c. search needs)
     rest-of-requires
-    due-requires
-    same-length
+    (λ c κs. search needs)
+    (λ c. search needs)
     returns
-    idle-requires
+    (λ c κs. search needs)
     returns-2
     rest-of-requires-2
     enter-requires
-    add-due
+    (λ c. search needs)
     bit-requires
     add-due-2
-    due-requires-2
-    same-length-2
+    (λ c κs. search needs)
+    (λ c. search needs)
     returns-3
-    add-first
-    mul-first
+    (λ c. search needs)
+    (λ c. search needs)
     slice-read-first
     enter-requires-2
-    add-idle
-    idle-requires-2
-    same-length-3
+    (λ c. search needs)
+    (λ c κs. search needs)
+    (λ c. search needs)
     returns-4
     enter-requires-3
-    add-due-3
-    due-requires-3
-    same-length-4
+    (λ c. search needs)
+    (λ c κs. search needs)
+    (λ c. search needs)
     returns-5
-    add-t13
-    add-due-4
-    due-requires-4
-    same-length-5
+    (λ c. search needs)
+    (λ c. search needs)
+    (λ c κs. search needs)
+    (λ c. search needs)
     returns-6)
