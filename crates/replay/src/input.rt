@@ -20,6 +20,13 @@ pub struct Length {
     pub value: usize,
 }
 
+pub struct Means {
+    pub ok: bool,
+    pub budget: u32,
+    pub room: usize,
+    pub space: usize,
+}
+
 // 16,384 bytes, room for any image of a case.
 pub fn image_buffer() -> [u8; 16384]
     ensures { λ r. ⌜ 16384 ≡ length r ⌝ }
@@ -139,15 +146,14 @@ pub fn take_image(image: &mut [u8]) -> Length
     }
 }
 
-// A room of at most `most` entries.
-pub fn take_room(most: usize) -> Length
+// The number as a length of at most `most`.
+fn at_most(n: Number, most: usize) -> Length
     ensures { λ r. ⌜ r .value ≤ most ⌝ }
 {
-    let n = take_u16();
+    let len = n.value as usize;
     if !n.ok {
         return no_length();
     }
-    let len = n.value as usize;
     if most < len {
         return no_length();
     }
@@ -157,22 +163,12 @@ pub fn take_room(most: usize) -> Length
     }
 }
 
-// A work area of at most `most` numbers.
-pub fn take_space(most: usize) -> Length
+// A room of at most `most` entries.
+pub fn take_room(most: usize) -> Length
     ensures { λ r. ⌜ r .value ≤ most ⌝ }
 {
-    let n = take_u32();
-    if !n.ok {
-        return no_length();
-    }
-    let len = n.value as usize;
-    if most < len {
-        return no_length();
-    }
-    Length {
-        ok: true,
-        value: len,
-    }
+    let n = take_u16();
+    at_most(n, most)
 }
 
 // A budget or a hypothesis, of four bytes.
@@ -181,6 +177,22 @@ pub fn take_number() -> Small {
     Small {
         ok: n.ok,
         value: n.value as u32,
+    }
+}
+
+// Budget, room and work length of a search.
+pub fn take_means() -> Means
+    ensures { λ r. ⌜ (r .room ≤ 1100) × (r .space ≤ 20000) ⌝ }
+{
+    let budget = take_number();
+    let room = take_room(1100);
+    let number = take_u32();
+    let space = at_most(number, 20000);
+    Means {
+        ok: budget.ok && (room.ok && space.ok),
+        budget: budget.value,
+        room: room.value,
+        space: space.value,
     }
 }
 

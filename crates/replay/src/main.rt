@@ -84,25 +84,17 @@ fn list_case() -> bool {
     let mut sets = input::list_buffer();
     let mut work = input::work_buffer();
     let taken = input::take_image(&mut image);
-    let budget = input::take_number();
-    let room = input::take_room(1100);
-    let space = input::take_space(20000);
+    let means = input::take_means();
     if !taken.ok {
         return false;
     }
-    if !budget.ok {
-        return false;
-    }
-    if !room.ok {
-        return false;
-    }
-    if !space.ok {
+    if !means.ok {
         return false;
     }
     let n = taken.value;
-    let r = room.value;
-    let w = space.value;
-    list(&image[..n], budget.value, &mut sets[..r], &mut work[..w]);
+    let r = means.room;
+    let w = means.space;
+    list(&image[..n], means.budget, &mut sets[..r], &mut work[..w]);
     true
 }
 
@@ -123,31 +115,23 @@ fn verdict_case() -> bool {
     let mut work = input::work_buffer();
     let taken = input::take_image(&mut image);
     let hypothesis = input::take_number();
-    let budget = input::take_number();
-    let room = input::take_room(1100);
-    let space = input::take_space(20000);
+    let means = input::take_means();
     if !taken.ok {
         return false;
     }
     if !hypothesis.ok {
         return false;
     }
-    if !budget.ok {
-        return false;
-    }
-    if !room.ok {
-        return false;
-    }
-    if !space.ok {
+    if !means.ok {
         return false;
     }
     let n = taken.value;
-    let r = room.value;
-    let w = space.value;
+    let r = means.room;
+    let w = means.space;
     verdict(
         &image[..n],
         hypothesis.value,
-        budget.value,
+        means.budget,
         &mut sets[..r],
         &mut work[..w],
     );
