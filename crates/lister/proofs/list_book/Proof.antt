@@ -15,28 +15,50 @@ walk-on-requires : tie.Need-walk-on-requires
 walk-on-requires c κs = let p = c .before .before .before .before .before .before .before .before .before .before .pre in (begins _ _ _ _ _ _ (p .book) (c .before .before .before .before .before .start .ensures) (p .few), c .before .before .field-at .ensures .0)
 
 order-requires : tie.Need-order-requires
-order-requires c κs = let h = c .before .before .before .before .before .before .before .before .before .before .before .walk-on .ensures in count-fits _ _ (c .before .before .before .before .before .before .before .before .before .before .before .before .before .before .before .before .before .before .before .before .before .before .args .sets .now) (c .before .before .before .before .before .before .before .before .before .before .before .before .before .before .before .before .before .before .before .before .before .before .args .work .now) _ (c .before .before .before .before .before .before .before .before .before .before .before .walk-on .last .1 .1 .1 .1 .0) _ (h .stopped) (c .before .before .before .before .before .before .before .before .before .before .before .walk-on .kept .1 .1 .1 .0) (h .later ∙ c .before .before .before .before .before .before .before .before .before .before .before .before .before .before .before .before .before .start .ensures .later) (c .before .if1 .taken)
+order-requires c κs =
+    let m = c .before .before .before .before .before .before .before .before .before .before .before in
+    let a = m .before .before .before .before .before .before .before .before .before .before .before .args in
+    let h = m .walk-on .ensures in
+    count-fits _ _ (a .sets .now) (a .work .now) _ (m .walk-on .last .1 .1 .1 .1 .0) _ (h .stopped) (m .walk-on .kept .1 .1 .1 .0)
+    (h .later ∙ m .before .before .before .before .before .before .start .ensures .later) (c .before .if1 .taken)
 
 clear-requires : tie.Need-clear-requires
-clear-requires c κs = let h = c .before .before .before .before .before .before .before .before .before .before .before .before .before .before .before .walk-on .ensures in omega (arith, count-fits _ _ (c .before .before .before .before .before .before .before .before .before .before .before .before .before .before .before .before .before .before .before .before .before .before .before .before .before .before .args .sets .now) (c .before .before .before .before .before .before .before .before .before .before .before .before .before .before .before .before .before .before .before .before .before .before .before .before .before .before .args .work .now) _ (c .before .before .before .before .before .before .before .before .before .before .before .before .before .before .before .walk-on .last .1 .1 .1 .1 .0) _ (h .stopped) (c .before .before .before .before .before .before .before .before .before .before .before .before .before .before .before .walk-on .kept .1 .1 .1 .0) (h .later ∙ c .before .before .before .before .before .before .before .before .before .before .before .before .before .before .before .before .before .before .before .before .before .start .ensures .later) (c .before .before .before .before .before .if1 .taken), c .before .before .before .order .kept .0)
+clear-requires c κs =
+    let m = c .before .before .before .before .before .before .before .before .before .before .before .before .before .before .before in
+    let a = m .before .before .before .before .before .before .before .before .before .before .before .args in
+    let h = m .walk-on .ensures in
+    let fits = count-fits _ _ (a .sets .now) (a .work .now) _ (m .walk-on .last .1 .1 .1 .1 .0) _ (h .stopped) (m .walk-on .kept .1 .1 .1 .0)
+    (h .later ∙ m .before .before .before .before .before .before .start .ensures .later) (c .before .before .before .before .before .if1 .taken) in
+    omega (arith, fits, c .before .before .before .order .kept .0)
 
 returns : tie.Need-returns
 returns c =
-    let h = c .before .before .before .before .before .before .before .before .before .before .before .before .before .before .before .before .before .before .walk-on .ensures in
-    searched-lists _ _ _ _ (c .before .before .before .before .before .before .before .before .before .before .before .before .before .before .before .before .before .before .before .before .before .before .before .before .before .before .before .before .before .pre) _ _ _
-    (ends-listed _ _ (c .before .before .before .before .before .before .before .before .before .before .before .before .before .before .before .before .before .before .before .before .before .before .before .before .before .before .before .before .before .args .sets .now) (c .before .before .before .before .before .before .before .before .before .before .before .before .before .before .before .before .before .before .before .before .before .before .before .before .before .before .before .before .before .args .work .now) _ (c .before .before .before .before .before .before .before .before .before .before .before .before .before .before .before .before .before .before .walk-on .last .1 .1 .1 .1 .0) _ (h .stopped) (c .before .before .before .before .before .before .before .before .before .before .before .before .before .before .before .before .before .before .walk-on .kept .1 .1 .1 .0) (h .later ∙ c .before .before .before .before .before .before .before .before .before .before .before .before .before .before .before .before .before .before .before .before .before .before .before .before .start .ensures .later) _ _ _ (c .before .before .before .before .before .before .before .before .if1 .taken) (c .before .before .before .before .before .before .order .ensures) (c .before .before .clear .ensures) (c .before .before .before .before .before .before .before .before .before .before .before .before .wipe .ensures))
+    let m = c .before .before .before .before .before .before .before .before .before .before .before .before .before .before .before .before .before .before in
+    let a = m .before .before .before .before .before .before .before .before .before .before .before .args in
+    let h = m .walk-on .ensures in
+    searched-lists _ _ _ _ (m .before .before .before .before .before .before .before .before .before .before .before .pre) _ _ _
+    (ends-listed _ _ (a .sets .now) (a .work .now) _ (m .walk-on .last .1 .1 .1 .1 .0) _ (h .stopped) (m .walk-on .kept .1 .1 .1 .0)
+    (h .later ∙ m .before .before .before .before .before .before .start .ensures .later) _ _ _ (c .before .before .before .before .before .before .before .before .if1 .taken)
+    (c .before .before .before .before .before .before .order .ensures) (c .before .before .clear .ensures) (c .before .before .before .before .before .before .before .before .before .before .before .before .wipe .ensures))
 
 returns-2 : tie.Need-returns-2
 returns-2 c =
-    let h = c .before .before .before .before .before .before .before .before .before .before .before .before .before .before .before .walk-on .ensures in
-    searched-lists _ _ _ _ (c .before .before .before .before .before .before .before .before .before .before .before .before .before .before .before .before .before .before .before .before .before .before .before .before .before .before .pre) _ _ _
-    (ends-short _ _ (c .before .before .before .before .before .before .before .before .before .before .before .before .before .before .before .before .before .before .before .before .before .before .before .before .before .before .args .sets .now) (c .before .before .before .before .before .before .before .before .before .before .before .before .before .before .before .before .before .before .before .before .before .before .before .before .before .before .args .work .now) _ (c .before .before .before .before .before .before .before .before .before .before .before .before .before .before .before .walk-on .last .1 .1 .1 .1 .0) _ (h .stopped) (c .before .before .before .before .before .before .before .before .before .before .before .before .before .before .before .walk-on .kept .1 .1 .1 .0) (h .later ∙ c .before .before .before .before .before .before .before .before .before .before .before .before .before .before .before .before .before .before .before .before .before .start .ensures .later) _ _ (c .if2 .taken) (c .before .before .before .clear2 .ensures) (c .before .before .before .before .before .before .before .before .before .wipe .ensures))
+    let m = c .before .before .before .before .before .before .before .before .before .before .before .before .before .before .before in
+    let a = m .before .before .before .before .before .before .before .before .before .before .before .args in
+    let h = m .walk-on .ensures in
+    searched-lists _ _ _ _ (m .before .before .before .before .before .before .before .before .before .before .before .pre) _ _ _
+    (ends-short _ _ (a .sets .now) (a .work .now) _ (m .walk-on .last .1 .1 .1 .1 .0) _ (h .stopped) (m .walk-on .kept .1 .1 .1 .0)
+    (h .later ∙ m .before .before .before .before .before .before .start .ensures .later) _ _ (c .if2 .taken) (c .before .before .before .clear2 .ensures) (c .before .before .before .before .before .before .before .before .before .wipe .ensures))
 
 returns-3 : tie.Need-returns-3
 returns-3 c =
-    let h = c .before .before .before .before .before .before .before .before .before .before .before .before .before .before .before .walk-on .ensures in
-    searched-lists _ _ _ _ (c .before .before .before .before .before .before .before .before .before .before .before .before .before .before .before .before .before .before .before .before .before .before .before .before .before .before .pre) _ _ _
-    (ends-full _ _ (c .before .before .before .before .before .before .before .before .before .before .before .before .before .before .before .before .before .before .before .before .before .before .before .before .before .before .args .sets .now) (c .before .before .before .before .before .before .before .before .before .before .before .before .before .before .before .before .before .before .before .before .before .before .before .before .before .before .args .work .now) _ (c .before .before .before .before .before .before .before .before .before .before .before .before .before .before .before .walk-on .last .1 .1 .1 .1 .0) _ (h .stopped) (c .before .before .before .before .before .before .before .before .before .before .before .before .before .before .before .walk-on .kept .1 .1 .1 .0) (h .later ∙ c .before .before .before .before .before .before .before .before .before .before .before .before .before .before .before .before .before .before .before .before .before .start .ensures .later) _ _ (c .before .before .before .before .before .if1 .left) (c .if2 .left) (c .before .before .before .clear2 .ensures) (c .before .before .before .before .before .before .before .before .before .wipe .ensures))
+    let m = c .before .before .before .before .before .before .before .before .before .before .before .before .before .before .before in
+    let a = m .before .before .before .before .before .before .before .before .before .before .before .args in
+    let h = m .walk-on .ensures in
+    searched-lists _ _ _ _ (m .before .before .before .before .before .before .before .before .before .before .before .pre) _ _ _
+    (ends-full _ _ (a .sets .now) (a .work .now) _ (m .walk-on .last .1 .1 .1 .1 .0) _ (h .stopped) (m .walk-on .kept .1 .1 .1 .0)
+    (h .later ∙ m .before .before .before .before .before .before .start .ensures .later) _ _ (c .before .before .before .before .before .if1 .left) (c .if2 .left)
+    (c .before .before .before .clear2 .ensures) (c .before .before .before .before .before .before .before .before .before .wipe .ensures))
 
 pub list-book-spec : {M : Type 1} → statement M
 list-book-spec =
