@@ -1,13 +1,13 @@
 -- Lists: membership, what holds of every or of some member, the tests of both, sums, and lists of lists laid flat.
 -- Assumes nothing.
-use mathlib.Core.Path.{_≡_, refl, sym, ap, subst, _∙_}
+use mathlib.Core.Path.{_≡_, refl, sym, subst}
 use mathlib.Core.Bool.{Bool, true, false, _&&_, _||_}
-use mathlib.Core.Logic.{_⊎_, inl, inr, ⊎-elim}
-use mathlib.Core.List.{List, [], _∷_, _++_, map, List·Memᴰ, List·Memᴰ·head, List·Memᴰ·tail, List·Memᴰ·cases-cons, List·Memᴰ·not-nil, List·Memᴰ·append-cases, Memᴰ·append-left, Memᴰ·append-right}
-use Prim.Native.Nat.{ℕ, zero, suc, _+_, _≤_}
+use mathlib.Core.Logic.{_⊎_, ⊎-elim}
+use mathlib.Core.List.{List, [], _∷_, _++_, List·Memᴰ, List·Memᴰ·head, List·Memᴰ·tail, List·Memᴰ·cases-cons, List·Memᴰ·not-nil, List·Memᴰ·append-cases, Memᴰ·append-left, Memᴰ·append-right}
+use Prim.Native.Nat.{ℕ, suc, _+_, _≤_}
 use native.Mathlib.Omega.{arith}
 use lib.ListN.{length}
-use Rattle.base.specs.Bools.{both, both-left, both-right, either, either-left, either-right, clash}
+use Rattle.base.specs.Bools.{choose, both, both-left, both-right, either, either-left, either-right, clash}
 
 infix 25 _∈_
 abbrev pub _∈_ {ℓ} : {A : Type ℓ} → A → List A → Type ℓ
@@ -93,6 +93,37 @@ module _ {ℓ} {A : Type ℓ} where
       (λ (e : s .0 ≡ a). either-left (t a) (any t l) (subst (λ (x : A). t x ≡ true) e (s .2)))
       (λ (m : s .0 ∈ l). either-right (t a) (any t l) (some-any t l (s .0, m, s .2)))
       (List·Memᴰ·cases-cons (s .1))
+
+  pub any-append : (t : A → Bool) (s u : List A) → any t (s ++ u) ≡ (any t s || any t u)
+  any-append t [] u = refl
+  any-append t (a ∷ s) u = go (t a) (any-append t s u)
+    where
+      go : (b : Bool) → any t (s ++ u) ≡ (any t s || any t u) → (b || any t (s ++ u)) ≡ ((b || any t s) || any t u)
+      go true e = refl
+      go false e = e
+
+  -- how many members stand before the first that passes the test
+  abbrev pub ahead : (A → Bool) → List A → ℕ
+  ahead t [] = 0
+  ahead t (a ∷ l) = choose (t a) 0 (suc (ahead t l))
+
+  pub ahead-length : (t : A → Bool) (l : List A) → ahead t l ≤ length l
+  ahead-length t [] = omega arith
+  ahead-length t (a ∷ l) = go (t a) (ahead-length t l)
+    where
+      go : (b : Bool) → ahead t l ≤ length l → choose b 0 (suc (ahead t l)) ≤ suc (length l)
+      go true h = omega arith
+      go false h = omega arith
+
+  -- none of the first list passes
+  pub ahead-append : (t : A → Bool) (s u : List A) → any t s ≡ false → ahead t (s ++ u) ≡ length s + ahead t u
+  ahead-append t [] u e = omega arith
+  ahead-append t (a ∷ s) u e = go (t a) e (ahead-append t s u)
+    where
+      go : (b : Bool) → (b || any t s) ≡ false → (any t s ≡ false → ahead t (s ++ u) ≡ length s + ahead t u)
+          → choose b 0 (suc (ahead t (s ++ u))) ≡ suc (length s) + ahead t u
+      go true q h = clash refl q
+      go false q h = omega (arith, h q)
 
   -- lists one after the other
   abbrev pub flat {κ} : {B : Type κ} → (B → List A) → List B → List A

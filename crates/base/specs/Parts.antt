@@ -1,15 +1,15 @@
 -- Parts of a list: the members that pass a test, what holds of each member and each later one, and a list laid over another.
 -- Assumes nothing.
 use mathlib.Core.Path.{_≡_, refl, sym, ap, subst}
-use mathlib.Core.Bool.{Bool, true, false}
+use mathlib.Core.Bool.{Bool, true, false, not}
 use mathlib.Core.Logic.{_⊎_, inl, inr, ⊎-elim}
-use mathlib.Core.List.{List·Memᴰ·head, List, [], _∷_, _++_, List·Memᴰ·cases-cons, List·Memᴰ·not-nil, List·Memᴰ·eq-of-singleton}
+use mathlib.Core.List.{List·Memᴰ·head, List, [], _∷_, _++_, List·Memᴰ·cases-cons, List·Memᴰ·not-nil}
 use Prim.Native.Nat.{suc, _≤_}
 use native.Mathlib.Nat.{le-of-suc-le-suc, not-suc-le-zero}
 use native.Mathlib.Omega.{arith}
 use lib.ListN.{length, take, drop}
-use Rattle.base.specs.Bools.{clash}
-use Rattle.base.specs.Lists.{_∈_, there, ∈-split, Every, every-none, every-first, every-rest}
+use Rattle.base.specs.Bools.{choose, clash}
+use Rattle.base.specs.Lists.{_∈_, there, Every, every-none, every-more, every-first, every-rest, every-both, every-left, every-right, ahead}
 
 module _ {ℓ} {A : Type ℓ} where
   -- a in front of the list, where the test holds
@@ -54,6 +54,18 @@ module _ {ℓ} {A : Type ℓ} where
       go : (b : Bool) → length (filter t l) ≤ length l → length (put b a (filter t l)) ≤ suc (length l)
       go true h = omega arith
       go false h = omega arith
+
+  -- without those that pass the test, what stands before the first of them is left as it is
+  pub filter-ahead : (t : A → Bool) (l : List A)
+      → filter (λ a. not (t a)) l ≡ take (ahead t l) l ++ filter (λ a. not (t a)) (drop (ahead t l) l)
+  filter-ahead t [] = refl
+  filter-ahead t (a ∷ l) = go (t a) refl (filter-ahead t l)
+    where
+      go : (b : Bool) → t a ≡ b → filter (λ a. not (t a)) l ≡ take (ahead t l) l ++ filter (λ a. not (t a)) (drop (ahead t l) l)
+          → put (not b) a (filter (λ a. not (t a)) l)
+          ≡ take (choose b 0 (suc (ahead t l))) (a ∷ l) ++ filter (λ a. not (t a)) (drop (choose b 0 (suc (ahead t l))) (a ∷ l))
+      go true e h = sym (rw e)
+      go false e h = ap (λ (m : List A). a ∷ m) h
 
   -- R holds of each member and each later one
   abbrev pub Pairwise {κ} : (A → A → Type κ) → List A → Type (ℓ ⊔ κ)
@@ -102,10 +114,22 @@ module _ {ℓ κ} {A : Type ℓ} (R : A → A → Type κ) where
       go true q = (λ b m. p .0 b (filter-from t l m .0), q)
       go false q = q
 
+  -- of two lists one after the other: what holds in each, and between the two
+  pub pairwise-left : (s t : List A) → Pairwise R (s ++ t) → Pairwise R s
+  pairwise-left [] t p = tt
+  pairwise-left (a ∷ s) t p = (every-left t (p .0), pairwise-left s t (p .1))
+
+  pub pairwise-right : (s t : List A) → Pairwise R (s ++ t) → Pairwise R t
+  pairwise-right [] t p = p
+  pairwise-right (a ∷ s) t p = pairwise-right s t (p .1)
+
+  pub pairwise-between : (s t : List A) → Pairwise R (s ++ t) → Every (λ a. Every (R a) t) s
+  pairwise-between [] t p = every-none (λ a. Every (R a) t)
+  pairwise-between (a ∷ s) t p = every-more (every-right s (p .0)) (pairwise-between s t (p .1))
+
+  pub pairwise-append : (s t : List A) → Pairwise R s → Pairwise R t → Every (λ a. Every (R a) t) s → Pairwise R (s ++ t)
+  pairwise-append [] t p q e = q
+  pairwise-append (a ∷ s) t p q e = (every-both (p .0) (every-first e), pairwise-append s t (p .1) q (every-rest e))
+
   pub pairwise-last : (l : List A) (x : A) → Pairwise R l → Every (λ a. R a x) l → Pairwise R (l ++ x ∷ [])
-  pairwise-last [] x p e = (every-none (R x), tt)
-  pairwise-last (a ∷ l) x p e = (λ b m. more b (∈-split l m), pairwise-last l x (p .1) (every-rest e))
-    where
-      more : (b : A) → (b ∈ l) ⊎ (b ∈ x ∷ []) → R a b
-      more b (inl m) = p .0 b m
-      more b (inr m) = subst (R a) (sym (List·Memᴰ·eq-of-singleton m)) (every-first e)
+  pairwise-last l x p e = pairwise-append l (x ∷ []) p (every-none (R x), tt) (λ a m. every-more (e a m) (every-none (R a)))

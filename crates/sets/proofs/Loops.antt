@@ -3,20 +3,18 @@
 use mathlib.Core.Path.{_≡_, refl, sym, ap, ap₂, subst, _∙_}
 use mathlib.Core.Bool.{Bool, true, false, not}
 use mathlib.Core.List.{List, [], _∷_, _++_, append-assoc, append-nil, foldl}
-use Prim.Native.Nat.{ℕ, suc, _+_, _-_, _≤_, _<_}
+use Prim.Native.Nat.{ℕ, _+_, _-_, _≤_, _<_}
 use native.Mathlib.Nat.{sub-self}
-use native.Mathlib.Numerals.{add-one}
 use native.Mathlib.Omega.{arith}
 use lib.ListN.{drop-of-length-le, length, take, drop, getD, set, length-set, length-append, take-append-drop, replicate-append-replicate}
-use lib.Seq.{slice, slice-empty, length-take-le, take-all, append-snoc, set-split, take-at, drop-at}
+use lib.Seq.{slice, slice-empty, length-take-le, take-all, append-snoc, take-take}
 use Rattle.base.specs.Bools.{choose-true, choose-false}
-use Rattle.base.specs.Lists.{any}
+use Rattle.base.specs.Lists.{any, ahead, ahead-length}
 use Rattle.base.specs.Scans.{next}
-use Rattle.base.specs.Parts.{filter, lay, lay-fits, lay-full, length-lay, take-lay, filter-length}
-use Rattle.base.specs.Order
+use Rattle.base.specs.Parts.{filter, filter-ahead, lay, lay-fits, lay-full, length-lay, take-lay, filter-length}
 use Rattle.base.specs.Least
-use Rattle.sets.specs.Sets.{inside, sooner}
-use Rattle.sets.specs.Kept.{insert, place, sort, zeros, Laid, Stands, insert-length}
+use Rattle.sets.specs.Sets.{inside}
+use Rattle.sets.specs.Kept.{insert, zeros, Laid, Stands, insert-length}
 use Rattle.sets.proofs.Steps.{next-all, front, stored, stored-behind, behind, behind-at, lay-store, filter-first, filter-later}
 
 -- ---- squeezing: of the first i of n entries those that pass stand in the front, and what is behind them is as it was
@@ -29,10 +27,23 @@ pub record Squeezed (t : ℕ → Bool) (old : List ℕ) (n : ℕ) (now : List �
   pub passed : filter t (take n old) ≡ take left now ++ filter t (slice i n old)
   pub rest : drop left now ≡ drop left old
 
-module _ (t : ℕ → Bool) (old : List ℕ) (n : ℕ) where
-  pub squeeze-start : n ≤ length old → Squeezed t old n old 0 0
-  squeeze-start h = record { before = omega arith; within = omega arith; fits = h; size = refl; passed = refl; rest = refl }
+-- what stands before the first that is dropped stays
+pub squeeze-start : (u : ℕ → Bool) (old : List ℕ) (n : ℕ) {left : ℕ} → n ≤ length old → left ≡ ahead u (take n old) → Squeezed (λ k. not (u k)) old n old left left
+squeeze-start u old n {left} h e =
+    let within : left ≤ n = omega (arith, ahead-length u (take n old), length-take-le n old h) in
+    record {
+      before = omega arith;
+      within = within;
+      fits = h;
+      size = refl;
+      passed =
+          filter-ahead u (take n old)
+          ∙ ap (λ (j : ℕ). take j (take n old) ++ filter (λ k. not (u k)) (slice j n old)) (sym e)
+          ∙ ap (λ (l : List ℕ). l ++ filter (λ k. not (u k)) (slice left n old)) (take-take left n old within);
+      rest = refl;
+    }
 
+module _ (t : ℕ → Bool) (old : List ℕ) (n : ℕ) where
   pub squeeze-keeps : {now : List ℕ} {left i : ℕ} → Squeezed t old n now left i → i < n → t (getD now i 0) ≡ true
       → Squeezed t old n (set now left (getD now i 0)) (left + 1) (i + 1)
   squeeze-keeps {now} {left} {i} q h e =
@@ -180,91 +191,6 @@ module _ (old : List ℕ) (n : ℕ) (list : List ℕ) where
         count = sym (length-take-le held now (omega (arith, q .bound, q .within, q .fits, q .size))) ∙ ap length all;
         list = all;
       }
-
--- ---- placing one set: it is carried through the first i entries, and the later of the two goes on
-
-pub record Settling (old : List ℕ) (last x : ℕ) (now : List ℕ) (s i : ℕ) : Type 0 where
-  pub within : i ≤ last
-  pub fits : last < length old
-  pub size : length now ≡ length old
-  pub rest : drop i now ≡ drop i old
-  pub placed : place (take last old) x ≡ take i now ++ place (slice i last old) s
-
-module _ (old : List ℕ) (last x : ℕ) where
-  pub settling-start : last < length old → Settling old last x old x 0
-  settling-start h = record { within = omega arith; fits = h; size = refl; rest = refl; placed = refl }
-
-  pub settling-more : {now : List ℕ} {s i a b : ℕ} → Settling old last x now s i → i < last
-      → a ≡ Order.first sooner s (getD now i 0) → b ≡ Order.second sooner s (getD now i 0) → Settling old last x (set now i a) b (i + 1)
-  unfolding Order.place
-  settling-more {now} {s} {i} {a} {b} q h e f =
-      let same : getD now i 0 ≡ getD old i 0 = behind-at now old i i (q .rest) (omega arith) in
-      record {
-        within = omega arith;
-        fits = q .fits;
-        size = length-set now i a ∙ q .size;
-        rest = stored-behind now i a ∙ behind now old i 1 (q .rest);
-        placed =
-            q .placed
-            ∙ ap (λ (l : List ℕ). take i now ++ place l s)
-            (next old i last h (omega (arith, q .fits)) ∙ ap (λ (y : ℕ). y ∷ slice (i + 1) last old) (sym same))
-            ∙ ap₂ (λ (u v : ℕ). take i now ++ u ∷ place (slice (i + 1) last old) v) (sym e) (sym f)
-            ∙ sym (append-snoc (take i now) a (place (slice (i + 1) last old) b))
-            ∙ ap (λ (l : List ℕ). l ++ place (slice (i + 1) last old) b) (sym (stored now i a (omega (arith, q .fits, q .size))));
-      }
-
-  pub settling-end : {now : List ℕ} {s i : ℕ} → Settling old last x now s i → last ≤ i
-      → set now last s ≡ place (take last old) x ++ drop (last + 1) old
-  unfolding Order.place
-  settling-end {now} {s} {i} q h =
-      let at : i ≡ last = omega (arith, q .within) in
-      let all : place (take last old) x ≡ take last now ++ s ∷ [] =
-      q .placed ∙ ap (λ (j : ℕ). take j now ++ place (slice j last old) s) at
-      ∙ ap (λ (l : List ℕ). take last now ++ place l s) (slice-empty last old) in
-      let tail : drop (last + 1) now ≡ drop (last + 1) old =
-      behind now old last 1 (subst (λ (j : ℕ). drop j now ≡ drop j old) at (q .rest)) in
-      set-split now last s (omega (arith, q .fits, q .size))
-      ∙ sym (append-snoc (take last now) s (drop (suc last) now))
-      ∙ ap (λ (j : ℕ). (take last now ++ s ∷ []) ++ drop j now) (sym (add-one last))
-      ∙ ap₂ _++_ (sym all) tail
-
--- ---- sorting: the first i entries are placed
-
-pub record Sorting (old : List ℕ) (n : ℕ) (now : List ℕ) (i : ℕ) : Type 0 where
-  pub within : i ≤ n
-  pub fits : n ≤ length old
-  pub size : length now ≡ length old
-  pub rest : drop i now ≡ drop i old
-  pub sorted : sort (take n old) ≡ foldl place (take i now) (slice i n old)
-
-module _ (old : List ℕ) (n : ℕ) where
-  pub sorting-start : n ≤ length old → Sorting old n old 0
-  unfolding Order.sort
-  sorting-start h = record { within = omega arith; fits = h; size = refl; rest = refl; sorted = refl }
-
-  pub sorting-more : {now after : List ℕ} {i : ℕ} → Sorting old n now i → i < n
-      → after ≡ place (take i now) (getD now i 0) ++ drop (i + 1) now → length after ≡ length now → Sorting old n after (i + 1)
-  sorting-more {now} {after} {i} q h w z =
-      let same : getD now i 0 ≡ getD old i 0 = behind-at now old i i (q .rest) (omega arith) in
-      let size : length (place (take i now) (getD now i 0)) ≡ i + 1 =
-      Order.length-place sooner (take i now) (getD now i 0) ∙ ap suc (length-take-le i now (omega (arith, q .fits, q .size))) ∙ sym (add-one i) in
-      let new : take (i + 1) after ≡ place (take i now) (getD now i 0) = ap (take (i + 1)) w ∙ take-at (place (take i now) (getD now i 0)) (drop (i + 1) now) (i + 1) size in
-      record {
-        within = omega arith;
-        fits = q .fits;
-        size = z ∙ q .size;
-        rest = ap (drop (i + 1)) w ∙ drop-at (place (take i now) (getD now i 0)) (drop (i + 1) now) (i + 1) size ∙ behind now old i 1 (q .rest);
-        sorted =
-            q .sorted ∙ ap (foldl place (take i now)) (next old i n h (q .fits) ∙ ap (λ (y : ℕ). y ∷ slice (i + 1) n old) (sym same))
-            ∙ ap (λ (l : List ℕ). foldl place l (slice (i + 1) n old)) (sym new);
-      }
-
-  pub sorting-end : {now : List ℕ} {i : ℕ} → Sorting old n now i → n ≤ i → now ≡ sort (take n old) ++ drop n old
-  sorting-end {now} {i} q h =
-      let at : i ≡ n = omega (arith, q .within) in
-      let all : sort (take n old) ≡ take n now =
-      q .sorted ∙ ap (λ (j : ℕ). foldl place (take j now) (slice j n old)) at ∙ ap (foldl place (take n now)) (slice-empty n old) in
-      sym (take-append-drop n now) ∙ ap₂ _++_ (sym all) (subst (λ (j : ℕ). drop j now ≡ drop j old) at (q .rest))
 
 -- ---- copying: the first i entries are copied
 

@@ -4,7 +4,7 @@ use mathlib.Core.Path.{_≡_, refl, sym, ap, _∙_, fun-ext}
 use mathlib.Core.Bool.{Bool, true, false, _&&_}
 use mathlib.Core.Logic.{_↔_, _⊎_, inl, inr, ⊎-elim}
 use mathlib.Core.List.{List, [], _∷_, map, Memᴰ·map, Memᴰ·of-map}
-use Prim.Native.Nat.{ℕ, zero, suc, _+_, _*_, _/_, _%_, _^_, _≤_, _<_}
+use Prim.Native.Nat.{ℕ, zero, suc, _+_, _-_, _*_, _/_, _%_, _^_, min, _≤_, _<_}
 use native.Mathlib.Nat.{div-one, le-of-suc-le-suc, not-suc-le-zero, zero-lt-suc, pow-suc, div-mul-le-self, le-trans, lt-of-lt-of-le, mul-le-mul-right, le-of-eq, one-mul, mod-lt, lt-of-not-le, not-le-of-lt}
 use native.Mathlib.Omega.{arith}
 use borrow.Author.Tests.{ltb-true, ltb-false, eqb-true, eqb-false, lt-ltb, eq-eqb}
@@ -89,6 +89,36 @@ inside-antisymmetric a b p q = sym (eqb-true (bitAnd a b) a p) ∙ and-comm a b 
 -- sets with the same members are the same number
 pub same-members : (a b : ℕ) → ((j : ℕ) → has a j ≡ has b j) → a ≡ b
 same-members a b e = inside-antisymmetric a b (has-inside a b (λ j h. sym (e j) ∙ h)) (has-inside b a (λ j h. e j ∙ h))
+
+-- a digit stands against a digit or against its opposite
+against : (x y z : ℕ) → x < 2 → y < 2 → z ≡ 1 - y → min x y + min x z ≡ x
+against x y z p q e = omega arith
+
+-- a's members are those in b and those outside, where both are below 2 ^ k
+in-and-outside : (k a b : ℕ) → a < 2 ^ k → b < 2 ^ k → bitAnd a b + bitAnd a (2 ^ k - 1 - b) ≡ a
+in-and-outside zero a b p q = let none : a ≡ 0 = omega arith in ap (λ (n : ℕ). bitAnd n b + bitAnd n (1 - 1 - b)) none ∙ sym none
+in-and-outside (suc k) a b p q = all (pow-suc 2 k) (in-and-outside k (a / 2) (b / 2) (omega (arith, pow-suc 2 k)) (omega (arith, pow-suc 2 k)))
+  where
+    rest : ℕ
+    rest = 2 ^ suc k - 1 - b
+
+    whole : (m n x y u v : ℕ) → m ≡ x * 2 + u → n ≡ y * 2 + v → x + y ≡ a / 2 → u + v ≡ a % 2 → m + n ≡ a
+    whole m n x y u v f g h k = omega arith
+
+    all : 2 ^ suc k ≡ 2 ^ k * 2 → bitAnd (a / 2) (b / 2) + bitAnd (a / 2) (2 ^ k - 1 - b / 2) ≡ a / 2 → bitAnd a b + bitAnd a rest ≡ a
+    all e h =
+        let high : rest / 2 ≡ 2 ^ k - 1 - b / 2 = omega (arith, e, q) in
+        let low : rest % 2 ≡ 1 - b % 2 = omega (arith, e, q) in
+        let halves : bitAnd (a / 2) (b / 2) + bitAnd (a / 2) (rest / 2) ≡ a / 2 = ap (λ (n : ℕ). bitAnd (a / 2) (b / 2) + bitAnd (a / 2) n) high ∙ h in
+        whole (bitAnd a b) (bitAnd a rest) (bitAnd (a / 2) (b / 2)) (bitAnd (a / 2) (rest / 2)) (min (a % 2) (b % 2)) (min (a % 2) (rest % 2))
+        (and-step a b) (and-step a rest) halves (against (a % 2) (b % 2) (rest % 2) (mod-lt a (zero-lt-suc 1)) (mod-lt b (zero-lt-suc 1)) low)
+
+-- so a is inside b where it has nothing outside
+pub inside-outside : (k a b : ℕ) → a < 2 ^ k → b < 2 ^ k → eqb (bitAnd a (2 ^ k - 1 - b)) 0 ≡ inside a b
+inside-outside k a b p q =
+    same-test
+    (λ t. eq-eqb (bitAnd a b) a (omega (arith, in-and-outside k a b p q, eqb-true (bitAnd a (2 ^ k - 1 - b)) 0 t)))
+    (λ t. eq-eqb (bitAnd a (2 ^ k - 1 - b)) 0 (omega (arith, in-and-outside k a b p q, eqb-true (bitAnd a b) a t)))
 
 -- a number below 2 ^ k is a set of abducibles below k
 pub within-has : (d k : ℕ) → d < 2 ^ k → (j : ℕ) → has d j ≡ true → j < k

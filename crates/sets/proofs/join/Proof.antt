@@ -34,49 +34,13 @@ returns-3 c =
     let a = c .before .before .before .before .before .before .args in
     joins-by tooLong (ending-long (a .left .now) (a .right .now) (a .out .now) (inr (inr (c .if3 .taken)))) refl refl
 
-slice-aggregate-insert-all : tie.Need-slice-aggregate-insert-all
-slice-aggregate-insert-all c = search needs
-
-insert-all-requires : tie.Need-insert-all-requires
-insert-all-requires c κs = search needs
-
-slice-aggregate-insert-all-2 : tie.Need-slice-aggregate-insert-all-2
-slice-aggregate-insert-all-2 c = search needs
-
 insert-all-requires-2 : tie.Need-insert-all-requires-2
 insert-all-requires-2 c κs = omega (arith, c .before .before .insert-all .ensures .count, inserted-length (c .before .before .before .before .before .before .before .before .before .before .args .left .now) [])
-
-clear-requires : tie.Need-clear-requires
-clear-requires c κs = search needs
-
-same-length : tie.Need-same-length
-same-length c = search needs
 
 returns-4 : tie.Need-returns-4
 returns-4 c =
     let a = c .before .before .before .before .before .before .before .before .before .before .before .before .before .before .before .before .before .args in
     no-room (a .left .now) (a .right .now) (a .out .now) (both (c .before .before .before .before .before .before)) (c .before .before .before .before .if4 .taken) (c .before .before .clear .ensures)
-
-slice-aggregate-order : tie.Need-slice-aggregate-order
-slice-aggregate-order c = search needs
-
-order-requires : tie.Need-order-requires
-order-requires c κs = search needs
-
-slice-aggregate-copy : tie.Need-slice-aggregate-copy
-slice-aggregate-copy c = search needs
-
-copy-requires : tie.Need-copy-requires
-copy-requires c κs = search needs
-
-clear-requires-2 : tie.Need-clear-requires-2
-clear-requires-2 c κs = search needs
-
-cast-sets : tie.Need-cast-sets
-cast-sets c = search needs
-
-same-length-2 : tie.Need-same-length-2
-same-length-2 c = search needs
 
 returns-5 : tie.Need-returns-5
 returns-5 c =
@@ -90,18 +54,18 @@ join-spec =
     returns
     returns-2
     returns-3
-    slice-aggregate-insert-all
-    insert-all-requires
-    slice-aggregate-insert-all-2
+    (λ c. search needs)
+    (λ c κs. search needs)
+    (λ c. search needs)
     insert-all-requires-2
-    clear-requires
-    same-length
+    (λ c κs. search needs)
+    (λ c. search needs)
     returns-4
-    slice-aggregate-order
-    order-requires
-    slice-aggregate-copy
-    copy-requires
-    clear-requires-2
-    cast-sets
-    same-length-2
+    (λ c. search needs)
+    (λ c κs. search needs)
+    (λ c. search needs)
+    (λ c κs. search needs)
+    (λ c κs. search needs)
+    (λ c. search needs)
+    (λ c. search needs)
     returns-5)

@@ -10,25 +10,10 @@ use borrow.Author.Needs.{needs}
 use Rattle.sets.proofs.kept.insert.Statement.{statement}
 use Rattle.sets.proofs.kept.insert.Tie as tie
 
-has-inside-requires : tie.Need-has-inside-requires
-has-inside-requires c κs = search needs
-
-same-length : tie.Need-same-length
-same-length c = search needs
-
 returns : tie.Need-returns
 returns c =
     let a = c .before .before .before .before .args in
     insert-none (a .kept .now) (a .count) (a .set) (c .before .before .before .before .pre) (sym (c .before .has-inside .ensures) ∙ c .if1 .taken)
-
-squeeze-requires : tie.Need-squeeze-requires
-squeeze-requires c κs = search needs
-
-mul-kept : tie.Need-mul-kept
-mul-kept c = search needs
-
-slice-write-kept : tie.Need-slice-write-kept
-slice-write-kept c = search needs
 
 add-result : tie.Need-add-result
 add-result c =
@@ -52,12 +37,12 @@ pub insert-spec : {M : Type 1} → statement M
 insert-spec =
     tie.close
     (tie.spec
-    has-inside-requires
-    same-length
+    (λ c κs. search needs)
+    (λ c. search needs)
     returns
-    squeeze-requires
-    mul-kept
-    slice-write-kept
+    (λ c κs. search needs)
+    (λ c. search needs)
+    (λ c. search needs)
     add-result
     same-length-2
     returns-2)

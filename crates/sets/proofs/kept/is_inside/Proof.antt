@@ -1,11 +1,12 @@
--- `sets::kept::is_inside` meets its contract: it computes the very test.
+-- `sets::kept::is_inside` meets its contract: the test for members outside is the test.
 -- Assumes nothing.
-use mathlib.Core.Path.{refl}
+use native.Mathlib.Omega.{arith}
+use Rattle.sets.specs.SetLaws.{inside-outside}
 use Rattle.sets.proofs.kept.is_inside.Statement.{statement}
 use Rattle.sets.proofs.kept.is_inside.Tie as tie
 
 returns : tie.Need-returns
-returns c = refl
+returns c = inside-outside 64 (c .args .a) (c .args .b) (omega arith) (omega arith)
 
 pub is-inside-spec : {M : Type 1} → statement M
 is-inside-spec = tie.close (tie.spec returns)

@@ -16,10 +16,13 @@ Inv-loop kept₀ count set left₀ i₀ kept left i = Squeezed (λ k. not (insid
 abbrev μ-loop : tie.MeasureT-loop
 μ-loop kept₀ count set left₀ i₀ kept left i = count - i
 
+find-containing-requires : tie.Need-find-containing-requires Inv-loop μ-loop
+find-containing-requires c κs = search needs
+
 loop-holds : tie.Need-loop-holds Inv-loop μ-loop
 loop-holds c =
-    let a = c .before .args in
-    squeeze-start (λ k. not (inside (a .set) k)) (a .kept .now) (a .count) (c .before .pre)
+    let s = c .before .before .before in
+    squeeze-start (inside (s .args .set)) (s .args .kept .now) (s .args .count) (s .pre) (c .find-containing .ensures)
 
 mul-there : tie.Need-mul-there Inv-loop μ-loop
 mul-there c = omega arith
@@ -47,7 +50,7 @@ loop-less c = omega arith
 
 loop-again : tie.Need-loop-again Inv-loop μ-loop
 loop-again c =
-    let a = c .before .before .before .before .before .before .args in
+    let a = c .before .before .before .before .before .before .before .before .args in
     squeeze-keeps (λ k. not (inside (a .set) k)) (a .kept .now) (a .count) (c .before .before .before .before .loop .inv) (c .before .before .before .loop-test .taken) (ap not (sym (c .before .is-inside .ensures)) ∙ c .if1 .taken)
 
 loop-less-2 : tie.Need-loop-less-2 Inv-loop μ-loop
@@ -55,7 +58,7 @@ loop-less-2 c = omega arith
 
 loop-again-2 : tie.Need-loop-again-2 Inv-loop μ-loop
 loop-again-2 c =
-    let a = c .before .before .before .before .before .before .args in
+    let a = c .before .before .before .before .before .before .before .before .args in
     squeeze-drops (λ k. not (inside (a .set) k)) (a .kept .now) (a .count) (c .before .before .before .before .loop .inv) (c .before .before .before .loop-test .taken) (ap not (sym (c .before .is-inside .ensures)) ∙ c .if1 .left)
 
 same-length : tie.Need-same-length Inv-loop μ-loop
@@ -63,7 +66,7 @@ same-length c = c .before .loop .inv .size
 
 returns : tie.Need-returns Inv-loop μ-loop
 returns c =
-    let a = c .before .before .before .args in
+    let a = c .before .before .before .before .before .args in
     squeeze-end (λ k. not (inside (a .set) k)) (a .kept .now) (a .count) (c .before .loop .inv) (c .loop-test .left)
 
 pub squeeze-spec : {M : Type 1} → statement M
@@ -72,6 +75,7 @@ squeeze-spec =
     (tie.spec
     Inv-loop
     μ-loop
+    find-containing-requires
     loop-holds
     mul-there
     slice-read-there
