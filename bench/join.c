@@ -1,7 +1,8 @@
 /* The joiner against plain C doing the same work, in one run: two lists of 1,024 sets.
    The worst case that has a result: 1,024 sets of which none is inside another, from the last in the order to the first, in both
-   lists. Each set of the left list is compared with all before it, twice; each of the right meets its equal; and the order step
-   carries each set past all before it. */
+   lists. Each set of the left list is compared with all before it, twice, and each of the right meets its equal. */
+#include "kept.h"
+
 #include <stdint.h>
 #include <stdio.h>
 #include <stdlib.h>
@@ -10,38 +11,17 @@
 
 uint64_t wizogbare_join(const uint64_t *left, size_t n, const uint64_t *right, size_t m, uint64_t *out, size_t room);
 
-static size_t insert(uint64_t *kept, size_t count, uint64_t set) {
-    for (size_t i = 0; i < count; i++)
-        if ((kept[i] & set) == kept[i]) return count;
-    size_t left = 0;
-    for (size_t i = 0; i < count; i++)
-        if ((set & kept[i]) != set) kept[left++] = kept[i];
-    kept[left] = set;
-    return left + 1;
-}
-
-static int sooner(uint64_t a, uint64_t b) {
-    int x = __builtin_popcountll(a), y = __builtin_popcountll(b);
-    return x < y || (x == y && a < b);
-}
-
 static uint64_t c_join(const uint64_t *left, size_t n, const uint64_t *right, size_t m, uint64_t *out, size_t room) {
-    uint64_t kept[2048];
+    uint64_t kept[2048 + ENDS];
     size_t count = 0;
     if (n > 1024 || m > 1024 || room > 1024) return 20ull << 32;
-    for (size_t i = 0; i < n; i++) count = insert(kept, count, left[i]);
-    for (size_t i = 0; i < m; i++) count = insert(kept, count, right[i]);
+    for (size_t i = 0; i < n; i++) count = keep(kept, count, left[i]);
+    for (size_t i = 0; i < m; i++) count = keep(kept, count, right[i]);
     if (count > room) {
         memset(out, 0, room * sizeof *out);
         return 31ull << 32;
     }
-    for (size_t i = 1; i < count; i++) {
-        uint64_t set = kept[i];
-        size_t j = i;
-        for (; j > 0 && sooner(set, kept[j - 1]); j--) kept[j] = kept[j - 1];
-        kept[j] = set;
-    }
-    memcpy(out, kept, count * sizeof *out);
+    send_out(kept, count, out);
     memset(out + count, 0, (room - count) * sizeof *out);
     return count;
 }

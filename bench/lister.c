@@ -9,13 +9,13 @@
  * is pushed only where a node has several children. What is marked after that stands on the trail, and is undone when
  * the frame's next child is due. All of it stands in the lent work area. */
 
+#include "kept.h"
 #include "lister.h"
 
 #include <string.h>
 
 enum {
     ATOMS = 256,
-    ABDUCIBLES = 64,
     GOAL_LITERALS = 16,
     CLAUSES = 512,
     BODY_LITERALS = 1024,
@@ -86,7 +86,7 @@ struct frame {
 
 struct __attribute__((may_alias)) lister {
     struct frame frames[FRAMES];
-    uint64_t kept[SETS + 4]; /* with room for what ends a scan */
+    uint64_t kept[SETS + ENDS];
     struct cell cells[CELLS];
     uint16_t trail[ATOMS];
     uint8_t action[TASKS];     /* for each task, as T and F are now */
@@ -248,53 +248,6 @@ static void read_book(struct lister *l, const uint8_t *image)
     l->action[DONE] = SUCCEED;
 }
 
-/* ---- The kept sets ---- */
-
-/* The first kept set inside the set. Behind the last the set itself stands four times, so no step looks for the end. */
-static inline uint64_t *first_inside(uint64_t *k, uint64_t set)
-{
-    for (;; k += 4) {
-        if ((k[0] & ~set) == 0)
-            return k;
-        if ((k[1] & ~set) == 0)
-            return k + 1;
-        if ((k[2] & ~set) == 0)
-            return k + 2;
-        if ((k[3] & ~set) == 0)
-            return k + 3;
-    }
-}
-
-/* The first kept set that contains the set, found the same way. */
-static inline uint64_t *first_containing(uint64_t *k, uint64_t set)
-{
-    for (;; k += 4) {
-        if ((set & ~k[0]) == 0)
-            return k;
-        if ((set & ~k[1]) == 0)
-            return k + 1;
-        if ((set & ~k[2]) == 0)
-            return k + 2;
-        if ((set & ~k[3]) == 0)
-            return k + 3;
-    }
-}
-
-/* The number of kept sets after a success with this set. */
-static size_t keep(uint64_t *kept, size_t count, uint64_t set)
-{
-    uint64_t *end = kept + count;
-    end[0] = end[1] = end[2] = end[3] = set;
-    if (first_inside(kept, set) < end)
-        return count;
-    uint64_t *left = first_containing(kept, set);
-    for (uint64_t *k = left; k < end; k++)
-        if ((set & ~*k) != 0)
-            *left++ = *k;
-    *left++ = set;
-    return left - kept;
-}
-
 /* ---- The search ---- */
 
 /* Takes the first task of the agenda. */
@@ -415,33 +368,6 @@ static uint64_t search(struct lister *l, uint32_t budget, size_t room)
             return answer(LISTED, kept, budget - left);
         task = first_task(l, &n, next_way(l, &n, &top));
     }
-}
-
-/* ---- The list in order ---- */
-
-static void sort_by_value(uint64_t *sets, size_t count)
-{
-    for (size_t gap = count / 2; gap > 0; gap = gap == 2 ? 1 : gap * 5 / 11)
-        for (size_t i = gap; i < count; i++) {
-            uint64_t set = sets[i];
-            size_t j = i;
-            for (; j >= gap && set < sets[j - gap]; j -= gap)
-                sets[j] = sets[j - gap];
-            sets[j] = set;
-        }
-}
-
-/* Sorts by value, then sends out by number of members, which keeps that order among sets of one size. */
-static void send_out(uint64_t *kept, size_t count, uint64_t *sets)
-{
-    uint16_t place[ABDUCIBLES + 1] = {0}; /* behind the last set of each size */
-    sort_by_value(kept, count);
-    for (size_t i = 0; i < count; i++)
-        place[__builtin_popcountll(kept[i])]++;
-    for (int size = 1; size <= ABDUCIBLES; size++)
-        place[size] += place[size - 1];
-    for (size_t i = count; i > 0; i--)
-        sets[--place[__builtin_popcountll(kept[i - 1])]] = kept[i - 1];
 }
 
 uint64_t c_list(const uint8_t *image, size_t length, uint32_t budget, uint64_t *sets, size_t room, uint32_t *work,
