@@ -1,0 +1,76 @@
+// The lister: document 01's search rules, run on the image as lent. The agenda, the marks and the frames of the search live in
+// the lent work area, the kept sets in the front of the lent list.
+pub mod area;
+pub mod front;
+pub mod run;
+pub mod search;
+pub mod start;
+pub mod tables;
+pub mod visit;
+pub mod ways;
+
+use book::Reading;
+
+// The number of sets, or a refusal's number; then the nodes visited.
+pub enum Listing {
+    Listed(u32, u32),
+    Refused(u8, u32),
+}
+
+const LONGEST: usize = 1024;
+
+const SPACE: usize = 16384;
+
+const MOST_BUDGET: u32 = 1000000;
+
+// What the tests before any search find: a refusal's number, or that the search may begin.
+pub enum Asked {
+    Turned(u8),
+    Search,
+}
+
+pub fn before_search(image: &[u8], budget: u32, room: usize, space: usize) -> Asked {
+    match book::read(image) {
+        Reading::Refused(n) => Asked::Turned(n),
+        Reading::Accepted => {
+            if LONGEST < room {
+                return Asked::Turned(20);
+            }
+            if space < SPACE {
+                return Asked::Turned(21);
+            }
+            if MOST_BUDGET < budget {
+                return Asked::Turned(22);
+            }
+            Asked::Search
+        }
+    }
+}
+
+// Lists the smallest explanations of the image's book.
+pub fn list(image: &[u8], budget: u32, sets: &mut [u64], work: &mut [u32]) -> Listing {
+    match before_search(image, budget, sets.len(), work.len()) {
+        Asked::Turned(n) => Listing::Refused(n, 0),
+        Asked::Search => list_book(image, budget, sets, work),
+    }
+}
+
+// The same where the search may begin.
+pub fn list_book(image: &[u8], budget: u32, sets: &mut [u64], work: &mut [u32]) -> Listing {
+    let root = start::start(image, work);
+    let r = search::walk_on(image, budget as usize, sets, work, root);
+    area::wipe(work, SPACE);
+    let state = r.state;
+    let count = r.count;
+    let nodes = r.nodes as u32;
+    if state == run::OVER {
+        sets::order::order(sets, count);
+        sets::lists::clear(sets, count);
+        return Listing::Listed(count as u32, nodes);
+    }
+    sets::lists::clear(sets, 0);
+    if state == 30 {
+        return Listing::Refused(30, nodes);
+    }
+    Listing::Refused(31, nodes)
+}
