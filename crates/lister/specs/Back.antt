@@ -1,366 +1,395 @@
--- A step of the machine where no node is in hand: the newest frame gives its next node, or goes. What is due stays the same.
+-- After a failure: the marks since the newest frame are taken off, and it gives its next way.
 -- Assumes nothing.
-use Prim.Native.Nat.{ℕ, suc, _+_, _-_, _*_, _/_, _%_, _^_, _≤_, _<_}
+use Prim.Native.Nat.{ℕ, zero, suc, _+_, _-_, _*_, _/_, _≤_, _<_}
 use native.Mathlib.Omega.{arith}
-use mathlib.Core.Path.{_≡_, refl, sym, ap, subst, subst₂, _∙_}
-use mathlib.Core.Bool.{true, false}
-use mathlib.Core.Logic.{⊎-elim}
+use native.Mathlib.Nat.{le-refl}
+use mathlib.Core.Path.{_≡_, refl, sym, ap, ap₂, subst, subst₂, _∙_}
+use mathlib.Core.Logic.{_⊎_, inl, inr, ⊎-elim}
 use mathlib.Core.List.{List, [], _∷_, _++_, map}
-use lib.Dec.{eqb, ltb}
-use lib.ListN.{length, getD, set, length-set}
-use lib.Seq.{getD-set-same, getD-set-other}
-use borrow.Author.Tests.{eq-eqb, ne-eqb, ltb-true, ltb-false}
-use Rattle.base.specs.Bools.{choose, choose-true, choose-false, decide}
-use Rattle.base.specs.Lists.{Every, every-first, every-rest}
-use Rattle.book.specs.Book.{Lit, Clause, Book}
-use Rattle.book.specs.Walk.{fieldAt}
-use Rattle.book.specs.Decode.{litOf}
-use Rattle.book.specs.Spell.{ofLits, Stands}
-use Rattle.book.specs.Shown.{litsAt, lits-at, clausePlace, noClause, shown}
-use Rattle.book.specs.Accepted.{within}
-use Rattle.searching.specs.Rules.{opposite, Task, want, Node, on, assumed}
-use Rattle.lister.specs.declared.frames.Cell.{Cell}
-use Rattle.lister.specs.declared.walk.Run.{Run}
-use Rattle.lister.specs.Machine.{word, cellAt, pos, neg, Chain, none, one, Ground, Area, Tail, newest, Own, lits, flip, Agenda, more, Ways, over, single, several, Fine, byClauses, byWays, Held, bottom, wanting, picking, Hand, idle, ready, Holds}
-use Rattle.lister.specs.Memory.{same-cell, same-ways, held-same, held-length, raise}
-use Rattle.lister.specs.Sheet.{parity, area-undo, area-same, assumed-defined, assumed-negated, assumed-joined}
-use Rattle.lister.specs.Moves.{readied, rested, bitOf, Body, body-of}
+use lib.Dec.{ltb}
+use borrow.Author.Tests.{ltb-true, ltb-false}
+use lib.ListN.{length, getD, set, drop, length-set}
+use lib.Seq.{getD-set-same, getD-set-other, drop-set-lt}
+use Rattle.base.specs.Bools.{decide}
+use Rattle.base.specs.Lists.{Every, every-none, every-more, every-first, every-rest}
+use Rattle.book.specs.Book.{Lit, Book}
+use Rattle.searching.specs.Rules.{Task, want, Node, assumed}
+use Rattle.lister.specs.declared.moves.Run.{Run}
+use Rattle.lister.specs.Machine.{Same, Listed, Chain, Ground, Area, Trail, marks, entry, frame, Agenda, Free, older, short, empty, Frame, Fine, byWays, Held, bottom, under, proving, picking, Hand, literal, record-at, last, agenda, failed, way, list, Holds}
+use Rattle.lister.specs.Memory.{trail-same, tail-same, agenda-same, held-used, held-same, agenda-at, free-at}
+use Rattle.lister.specs.Sheet.{area-undo, area-same}
+use Rattle.lister.specs.Marks.{trail-few}
+use Rattle.lister.specs.Pieces.{turning, giving, undone, Undoable, restoring, lowered}
+use Rattle.lister.specs.Ways.{chain-ahead, chain-none, chain-empty, fine-less}
+use Rattle.lister.specs.Steps.{Moved, Stands, Backed, back-to, over}
 
-pub record Resting (s : List ℕ) (ab : ℕ) (b : Book) (w : List ℕ) (r : Run) (k : ℕ) (all : List Node) : Type 0 where
-  pub tab : ℕ → ℕ
-  pub ags : List (List Task)
-  pub sheet : List Lit
-  pub ground : Ground s ab b tab
-  pub area : Area tab w sheet
-  pub held : Held s b tab w (suc k) ags sheet all
-  pub chosen : r .set ≡ assumed b sheet
-  pub height : r .top ≡ suc k
-  pub low : suc k ≤ 899
+-- a frame on top of the trail's end
+data Top (s : List ℕ) (b : Book) (tab : ℕ → ℕ) (w : List ℕ) (k : ℕ) : ℕ → List Lit → List Node → Type 0 where
+  proved : {m used : ℕ} {sheet : List Lit} {due : List Node} {rest : List Task} {ls : List Lit} {lss : List (List Lit)}
+      → Frame s b tab w k (suc m) sheet (ls ∷ lss) → Agenda s b tab w m (frame w k 3) (frame w k 4) (frame w k 5) rest
+      → Every (Fine b (suc k)) (byWays rest sheet (ls ∷ lss))
+      → used ≤ m → Held s b tab w k (suc m) used sheet due → Top s b tab w k (suc m) sheet (byWays rest sheet (ls ∷ lss) ++ due)
+  picked : {m used : ℕ} {sheet : List Lit} {due : List Node} {rest : List Task} {ls : List Lit} {lss : List (List Lit)}
+      → Frame s b tab w k m sheet (ls ∷ lss) → Free s b tab w m m (frame w k 3) (frame w k 4) (frame w k 5) rest (ls ∷ lss)
+      → Every (Fine b (suc k)) (byWays rest sheet (ls ∷ lss))
+      → Held s b tab w k m used sheet due → Top s b tab w k m sheet (byWays rest sheet (ls ∷ lss) ++ due)
 
-pub resting : (s : List ℕ) (ab : ℕ) (b : Book) (w : List ℕ) (r : Run) (k : ℕ) (all : List Node) → Holds s ab b w r all → r .due ≡ 0 → r .top ≡ suc k → Resting s ab b w r k all
-resting s ab b w r k all h d e = go (h .hand)
-  where
-    go : {all : List Node} → Hand s b (h .tab) (h .ags) (h .sheet) (h .due) r all → Resting s ab b w r k all
-    go (ready f a g) = absurd (omega (arith, f, d))
-    go (idle f) = record {
-      tab = h .tab;
-      ags = h .ags;
-      sheet = h .sheet;
-      ground = h .ground;
-      area = h .area;
-      held = subst (λ (n : ℕ). Held s b (h .tab) w n (h .ags) (h .sheet) (h .due)) e (h .held);
-      chosen = h .chosen;
-      height = e;
-      low = omega (arith, h .low, e);
+-- n marks off, the frame is on top
+record Peeled (s : List ℕ) (b : Book) (tab : ℕ → ℕ) (w : List ℕ) (k : ℕ) (due : List Node) (v : List ℕ) (m : ℕ) : Type 0 where
+  base : ℕ
+  n : ℕ
+  is : m ≡ base + n
+  sheet : List Lit
+  top : Top s b tab w k base sheet due
+  trail : Trail (undone v (7560 + 4 * base) n) base sheet
+  area : Area tab (undone v (7560 + 4 * base) n) sheet
+  same : Same w (undone v (7560 + 4 * base) n) 256 16384
+  later : drop 16384 (undone v (7560 + 4 * base) n) ≡ drop 16384 v
+  literals : (j : ℕ) → j < n → getD v (7560 + 4 * base + 4 * j + 3) 0 < 512
+
+last-or-before : (j n : ℕ) → j < suc n → (j < n) ⊎ (j ≡ n)
+last-or-before j n h =
+    ⊎-elim (λ e. inl (ltb-true j n e)) (λ e. inr (let up : n ≤ j = ltb-false j n e in omega arith)) (decide (ltb j n))
+
+module _ {s : List ℕ} {b : Book} {tab : ℕ → ℕ} {w : List ℕ} {k : ℕ} where
+  -- one mark more
+  peel-more : {due : List Node} (v : List ℕ) (y m : ℕ) → entry v m 3 ≡ y → y < 512 → Peeled s b tab w k due (set v (y / 2) 0) m → Peeled s b tab w k due v (suc m)
+  unfolding undone
+  peel-more v y m e l x = record {
+    base = x .base;
+    n = suc (x .n);
+    is = omega (arith, x .is);
+    sheet = x .sheet;
+    top = x .top;
+    trail = subst (λ (i : List ℕ). Trail i (x .base) (x .sheet)) next (x .trail);
+    area = subst (λ (i : List ℕ). Area tab i (x .sheet)) next (x .area);
+    same = subst (λ (i : List ℕ). Same w i 256 16384) next (x .same);
+    later = ap (drop 16384) (sym next) ∙ x .later ∙ drop-set-lt 16384 v (y / 2) 0 (omega arith);
+    literals = λ j g. ⊎-elim (λ h. before j h) (λ h. newest j h) (last-or-before j (x .n) g);
+  }
+    where
+      at : 7560 + 4 * x .base + 4 * x .n + 3 ≡ 7560 + 4 * m + 3
+      at = omega (arith, x .is)
+
+      read : getD v (7560 + 4 * x .base + 4 * x .n + 3) 0 ≡ y
+      read = ap (λ (i : ℕ). getD v i 0) at ∙ e
+
+      next : undone (set v (y / 2) 0) (7560 + 4 * x .base) (x .n) ≡ undone v (7560 + 4 * x .base) (suc (x .n))
+      next = ap (λ (i : ℕ). undone (set v (i / 2) 0) (7560 + 4 * x .base) (x .n)) (sym read)
+
+      before : (j : ℕ) → j < x .n → getD v (7560 + 4 * x .base + 4 * j + 3) 0 < 512
+      before j h =
+          subst (λ (i : ℕ). i < 512) (getD-set-other v (y / 2) (7560 + 4 * x .base + 4 * j + 3) 0 0 (λ z. omega (arith, z))) (x .literals j h)
+
+      newest : (j : ℕ) → j ≡ x .n → getD v (7560 + 4 * x .base + 4 * j + 3) 0 < 512
+      newest j h = subst (λ (i : ℕ). getD v (7560 + 4 * x .base + 4 * i + 3) 0 < 512) (sym h) (subst (λ (i : ℕ). i < 512) (sym read) l)
+
+  peel : {m used : ℕ} {sheet : List Lit} {due : List Node} (v : List ℕ) → Held s b tab w (suc k) m used sheet due → Trail v m sheet → Area tab v sheet → Same w v 256 16384
+      → Peeled s b tab w k due v m
+  unfolding undone
+  peel v (proving {m = m} {sheet = sheet} fr a fs u h) t ar sm =
+      record { base = suc m; n = 0; is = omega arith; sheet = sheet; top = proved fr a fs u h; trail = t; area = ar; same = sm; later = refl; literals = λ j q. absurd (omega arith) }
+  peel v (picking {m = m} {sheet = sheet} fr a fs h) t ar sm =
+      record { base = m; n = 0; is = omega arith; sheet = sheet; top = picked fr a fs h; trail = t; area = ar; same = sm; later = refl; literals = λ j q. absurd (omega arith) }
+  peel v (under {m = m} h) (marks y e l p q t) ar sm =
+      let atom : y / 2 < 256 = omega arith in
+      let o : (j : ℕ) → 256 ≤ j → getD (set v (y / 2) 0) j 0 ≡ getD v j 0 = λ j g. getD-set-other v (y / 2) j 0 0 (λ z. omega (arith, z)) in
+      peel-more v y m e l
+      (peel (set v (y / 2) 0) h (trail-same (λ j g. o (7560 + 4 * j + 3) (omega arith)) t) (area-undo y atom (p, q) ar) (λ j g i. o j g ∙ sm j g i))
+
+-- ---- the newest frame gives its next way
+
+top-places : {s : List ℕ} {b : Book} {tab : ℕ → ℕ} {w : List ℕ} {k m : ℕ} {sheet : List Lit} {due : List Node} → Top s b tab w k m sheet due
+    → (2440 ≤ frame w k 6) × (frame w k 6 + 1 < 7560) × (frame w k 0 ≡ 7560 + 4 * m) × (suc k ≤ 896)
+top-places (proved fr a fs u h) = let c = chain-ahead (fr .ways) in (c .low, c .high, fr .marked, omega (arith, every-first fs .0))
+top-places (picked fr a fs h) = let c = chain-ahead (fr .ways) in (c .low, c .high, fr .marked, omega (arith, every-first fs .0))
+
+-- the run with the marks, the set and the agenda of frame k, and a list
+abbrev back-run : List ℕ → ℕ → Run → ℕ → ℕ → ℕ → Run
+back-run v k r d top x = record {
+  state = 3;
+  task = x;
+  at = frame v k 3;
+  end = frame v k 4;
+  link = frame v k 5;
+  marked = d;
+  top = top;
+  nodes = r .nodes;
+  count = r .count;
+  set = frame v k 1 + 4294967296 * frame v k 2;
+}
+
+back-free : (s : List ℕ) (b : Book) (tab : ℕ → ℕ) {w u : List ℕ} {m most at end link : ℕ} (used : ℕ) {ts : List Task} {ls : List Lit} {lss : List (List Lit)} → m ≤ most
+    → Same w u 7560 (7560 + 4 * m) → Free s b tab w m most at end link ts (ls ∷ lss) → Free s b tab u m used at end link ts (ls ∷ [])
+back-free s b tab used h f (older q a) = absurd (omega arith)
+back-free s b tab used h f (short a k) = short (agenda-same s b tab f a) (every-more (every-first k) (every-none (λ (l : List Lit). length l ≤ 1)))
+back-free s b tab used h f (empty e l t) = empty e l (tail-same s b tab f t)
+
+keep-free : (s : List ℕ) (b : Book) (tab : ℕ → ℕ) {w u : List ℕ} {m most at end link : ℕ} {ts : List Task} {ls : List Lit} {lss : List (List Lit)} → m ≤ most
+    → Same w u 7560 (7560 + 4 * m) → Free s b tab w m most at end link ts (ls ∷ lss) → Free s b tab u m m at end link ts lss
+keep-free s b tab h f (older q a) = absurd (omega arith)
+keep-free s b tab h f (short a k) = short (agenda-same s b tab f a) (every-rest k)
+keep-free s b tab h f (empty e l t) = empty e l (tail-same s b tab f t)
+
+module _ (s : List ℕ) (b : Book) (tab : ℕ → ℕ) (w : List ℕ) (k : ℕ) (r : Run) (v : List ℕ) (same : Same w v 256 16384) (few : suc k ≤ 896) where
+  -- the next way written in the frame
+  abbrev over-written : List ℕ
+  over-written = set v (8584 + 7 * k + 6) (tab (frame w k 6 + 1))
+
+  stays : Same w over-written 256 (8584 + 7 * k + 6)
+  stays j p q = getD-set-other v (8584 + 7 * k + 6) j (tab (frame w k 6 + 1)) 0 (λ z. omega (arith, z)) ∙ same j p (omega arith)
+
+  word-stays : (i : ℕ) → i < 6 → frame over-written k i ≡ frame w k i
+  word-stays i q = stays (8584 + 7 * k + i) (omega arith) (omega arith)
+
+  word-v : (i : ℕ) → i < 7 → frame v k i ≡ frame w k i
+  word-v i q = same (8584 + 7 * k + i) (omega arith) (omega arith)
+
+  module _ (m : ℕ) (sheet : List Lit) (g : Ground s b tab) (t : Trail v m sheet) (a : Area tab v sheet) where
+    few-marks : m ≤ 256
+    few-marks = trail-few t
+
+    entries : Same w over-written 7560 (7560 + 4 * m)
+    entries j p q = stays j (omega arith) (omega (arith, few-marks))
+
+    held-stays : {used : ℕ} {due : List Node} → Held s b tab w k m used sheet due → Held s b tab over-written k m used sheet due
+    held-stays {used} h =
+        let most : used ≤ m = held-used s b tab h in
+        held-same s b tab (λ j p q. stays j (omega arith) (omega arith)) (λ j p q. entries j p (omega arith)) h
+
+    built : (height used : ℕ) (rest : List Task) (ls : List Lit) (due : List Node) → frame v k 1 + 4294967296 * frame v k 2 ≡ assumed b sheet
+        → Held s b tab over-written height m used sheet due
+        → Free s b tab over-written m used (frame w k 3) (frame w k 4) (frame w k 5) rest (ls ∷ []) → Listed s tab (tab (frame w k 6)) ls
+        → Fine b height (record { agenda = map want ls ++ rest; sheet = sheet })
+        → Holds s b over-written (back-run v k r (7560 + 4 * m) (8584 + 7 * height) (tab (frame w k 6))) (record { agenda = map want ls ++ rest; sheet = sheet } ∷ due)
+    built height used rest ls due set h fr l fn = record {
+      tab = tab;
+      height = height;
+      marks = m;
+      used = used;
+      sheet = sheet;
+      due = due;
+      ground = g;
+      area = area-same (length-set v (8584 + 7 * k + 6) (tab (frame w k 6 + 1))) (λ j p q. getD-set-other v (8584 + 7 * k + 6) j (tab (frame w k 6 + 1)) 0 (λ z. omega (arith, z))) a;
+      trail = trail-same (λ j p. getD-set-other v (8584 + 7 * k + 6) (7560 + 4 * j + 3) (tab (frame w k 6 + 1)) 0 (λ z. omega (arith, z, few-marks))) t;
+      held = h;
+      chosen = set;
+      marked = refl;
+      top = refl;
+      hand = list refl l (free-at s b tab (word-v 3 (omega arith)) (word-v 4 (omega arith)) (word-v 5 (omega arith)) fr) fn;
     }
 
--- no frame: nothing is due
-pub held-none : (s : List ℕ) (b : Book) (tab : ℕ → ℕ) {w : List ℕ} {n : ℕ} {ags : List (List Task)} {sheet : List Lit} {due : List Node} → n ≡ 0 → Held s b tab w n ags sheet due → due ≡ []
-held-none s b tab e bottom = refl
-held-none s b tab e (wanting y a u n p q c f h) = absurd (omega arith)
-held-none s b tab e (picking a u c f h) = absurd (omega arith)
+    set-same : {lss : List (List Lit)} → Frame s b tab w k m sheet lss → frame v k 1 + 4294967296 * frame v k 2 ≡ assumed b sheet
+    set-same fr = ap₂ (λ (x y : ℕ). x + 4294967296 * y) (word-v 1 (omega arith)) (word-v 2 (omega arith)) ∙ fr .set
 
-pub nothing-due : (s : List ℕ) (ab : ℕ) (b : Book) (w : List ℕ) (r : Run) (all : List Node) → Holds s ab b w r all → r .due ≡ 0 → r .top ≡ 0 → all ≡ []
-nothing-due s ab b w r all h d e = go (h .hand)
-  where
-    go : {all : List Node} → Hand s b (h .tab) (h .ags) (h .sheet) (h .due) r all → all ≡ []
-    go (ready f a g) = absurd (omega (arith, f, d))
-    go (idle f) = held-none s b (h .tab) e (h .held)
+    popped : (used : ℕ) (rest : List Task) (ls : List Lit) (lss : List (List Lit)) (due : List Node) → tab (frame w k 6 + 1) ≡ 0 → Frame s b tab w k m sheet (ls ∷ lss)
+        → Free s b tab over-written m used (frame w k 3) (frame w k 4) (frame w k 5) rest (ls ∷ []) → Every (Fine b (suc k)) (byWays rest sheet (ls ∷ lss))
+        → Held s b tab w k m used sheet due
+        → Holds s b over-written (back-run v k r (7560 + 4 * m) (8584 + 7 * k) (tab (frame w k 6))) (byWays rest sheet (ls ∷ lss) ++ due)
+    popped used rest ls lss due z fr free fs h =
+        let c = chain-ahead (fr .ways) in
+        let none : lss ≡ [] = chain-none (c .others) z in
+        subst (λ (l : List (List Lit)). Holds s b over-written (back-run v k r (7560 + 4 * m) (8584 + 7 * k) (tab (frame w k 6))) (byWays rest sheet (ls ∷ l) ++ due)) (sym none)
+        (built k used rest ls due (set-same fr) (held-stays h) free (c .first) (fine-less b (record { agenda = map want ls ++ rest; sheet = sheet }) k (every-first fs)))
 
-module _ (s : List ℕ) (ab : ℕ) (b : Book) (w : List ℕ) (r : Run) (k : ℕ) (all : List Node) (v : Resting s ab b w r k all) where
-  -- the frame lies within the work area
-  pub small : 1672 + 8 * k + 8 ≤ length w
-  small = omega (arith, v .low, v .area .long)
+    frame-next : (ls : List Lit) (lss : List (List Lit)) → Frame s b tab w k m sheet (ls ∷ lss) → 8584 + 7 * k + 6 < length v → Frame s b tab over-written k m sheet lss
+    frame-next ls lss fr room =
+        record {
+          marked = word-stays 0 (omega arith) ∙ fr .marked;
+          set = ap₂ (λ (x y : ℕ). x + 4294967296 * y) (word-stays 1 (omega arith)) (word-stays 2 (omega arith)) ∙ fr .set;
+          ways = subst (λ (n : ℕ). Chain s tab n lss) (sym (getD-set-same v (8584 + 7 * k + 6) (tab (frame w k 6 + 1)) 0 room)) (chain-ahead (fr .ways) .others);
+        }
 
-  -- ---- a frame of clauses
+  -- the last way: the frame goes
+  pop-holds : (m : ℕ) (sheet : List Lit) (due : List Node) → Ground s b tab → Trail v m sheet → Area tab v sheet → Top s b tab w k m sheet due → tab (frame w k 6 + 1) ≡ 0
+      → Holds s b over-written (back-run v k r (7560 + 4 * m) (8584 + 7 * k) (tab (frame w k 6))) due
+  pop-holds m sheet due g t a (proved {m = n} {used} {due = below} {rest} {ls} {lss} fr ag fs u h) z =
+      popped m sheet g t a used rest ls lss below z fr (older u (agenda-same s b tab (λ j p q. entries m sheet g t a j p (omega arith)) ag)) fs h
+  pop-holds m sheet due g t a (picked {used = used} {due = below} {rest} {ls} {lss} fr free fs h) z =
+      popped m sheet g t a used rest ls lss below z fr (back-free s b tab used (le-refl m) (entries m sheet g t a) free) fs h
 
-  -- the literal that it marks
-  pub record Marks (y : ℕ) : Type 0 where
-    pub atom : y / 2 < 256
-    pub bit : y / 2 < ab → bitOf y ≤ r .set
-    pub small-atom : y / 2 < ab → y / 2 < 64
+  -- another way is left: the frame stays
+  keep-holds : (m : ℕ) (sheet : List Lit) (due : List Node) → Ground s b tab → Trail v m sheet → Area tab v sheet → Top s b tab w k m sheet due → (tab (frame w k 6 + 1) ≡ 0 → ⊥)
+      → Holds s b over-written (back-run v k r (7560 + 4 * m) (8584 + 7 * suc k) (tab (frame w k 6))) due
+  keep-holds m sheet due g t a (proved {m = n} {used} {due = below} {rest} {ls} {lss = []} fr ag fs u h) nz = absurd (nz (chain-empty (chain-ahead (fr .ways) .others)))
+  keep-holds m sheet due g t a (proved {m = n} {used} {due = below} {rest} {ls} {lss = l2 ∷ lss} fr ag fs u h) nz =
+      let ag′ : Agenda s b tab over-written n (frame w k 3) (frame w k 4) (frame w k 5) rest = agenda-same s b tab (λ j p q. entries m sheet g t a j p (omega arith)) ag in
+      let room : 8584 + 7 * k + 6 < length v = omega (arith, a .long) in
+      built m sheet g t a (suc k) n rest ls (byWays rest sheet (l2 ∷ lss) ++ below) (set-same m sheet g t a fr)
+      (proving (frame-next m sheet g t a ls (l2 ∷ lss) fr room)
+      (agenda-at s b tab (word-stays 3 (omega arith)) (word-stays 4 (omega arith)) (word-stays 5 (omega arith)) ag′) (every-rest fs) u (held-stays m sheet g t a h))
+      (older (le-refl n) ag′) (chain-ahead (fr .ways) .first) (every-first fs)
+  keep-holds m sheet due g t a (picked {used = used} {due = below} {rest} {ls} {lss = []} fr free fs h) nz = absurd (nz (chain-empty (chain-ahead (fr .ways) .others)))
+  keep-holds m sheet due g t a (picked {used = used} {due = below} {rest} {ls} {lss = l2 ∷ lss} fr free fs h) nz =
+      let room : 8584 + 7 * k + 6 < length v = omega (arith, a .long) in
+      built m sheet g t a (suc k) m rest ls (byWays rest sheet (l2 ∷ lss) ++ below) (set-same m sheet g t a fr)
+      (picking (frame-next m sheet g t a ls (l2 ∷ lss) fr room)
+      (free-at s b tab (word-stays 3 (omega arith)) (word-stays 4 (omega arith)) (word-stays 5 (omega arith)) (keep-free s b tab (le-refl m) (entries m sheet g t a) free)) (every-rest fs) (held-stays m sheet g t a h))
+      (back-free s b tab m (le-refl m) (entries m sheet g t a) free) (chain-ahead (fr .ways) .first) (every-first fs)
 
-  bit-sum : (sheet : List Lit) (y : ℕ) → on sheet (pos (y / 2)) ≡ false → y / 2 < b .abducibles → assumed b (litOf y ∷ sheet) ≡ assumed b sheet + bitOf y
-  unfolding bitOf
-  bit-sum sheet y f a =
-      ⊎-elim
-      (λ (z : y % 2 ≡ 0). assumed-joined b sheet y z a f ∙ ap (λ (n : ℕ). assumed b sheet + n) (sym (choose-true (2 ^ (y / 2)) 0 (eq-eqb (y % 2) 0 z))))
-      (λ (z : y % 2 ≡ 1). assumed-negated b sheet y z ∙ omega (arith, choose-false (2 ^ (y / 2)) 0 (ne-eqb (y % 2) 0 (λ i. omega (arith, i, z)))))
-      (parity y)
+-- ---- as the code does it
 
-  few : b .abducibles ≤ 64
-  few = within s b (v .ground .book) .abducibles
+run-back : (v : List ℕ) (r : Run) (f d x k d′ top x′ : ℕ) → f ≡ 8584 + 7 * k → d ≡ d′ → x ≡ x′ → r .top ≡ top → giving (restoring v r f d) 3 x ≡ back-run v k r d′ top x′
+run-back v r f d x k d′ top x′ p q i j = rw (p, q, i, j) refl
 
-  pub marks : (y : ℕ) → word w k 4 ≡ suc y → Marks y
-  marks y e = go (v .held) (v .chosen)
+run-popped : (v : List ℕ) (r : Run) (f d x k d′ top x′ : ℕ) → f ≡ 8584 + 7 * k → d ≡ d′ → x ≡ x′ → f ≡ top → giving (lowered (restoring v r f d) f) 3 x ≡ back-run v k r d′ top x′
+run-popped v r f d x k d′ top x′ p q i j = rw (q, i) (subst (λ (n : ℕ). giving (lowered (restoring v r f d′) f) 3 x′ ≡ back-run v k r d′ n x′) j (rw p refl))
+
+module _ (s : List ℕ) (b : Book) (w : List ℕ) (r : Run) (all : List Node) (h : Holds s b w r all) (st : r .state ≡ 5) where
+  all-due : all ≡ h .due
+  all-due = go (h .hand)
     where
-      go : {ags : List (List Task)} {sheet : List Lit} {all : List Node} → Held s b (v .tab) w (suc k) ags sheet all → r .set ≡ assumed b sheet → Marks y
-      go (wanting {sheet = sheet} z a u n p q c f h) mine =
-          let same : z ≡ y = omega (arith, u, e) in
-          subst Marks same
-          (record {
-            atom = n;
-            bit = λ i. omega (arith, bit-sum sheet z p (omega (arith, i, v .ground .abducibles)), mine);
-            small-atom = λ i. omega (arith, i, v .ground .abducibles, few);
-          })
-      go (picking a u c f h) mine = absurd (omega (arith, u, e))
+      go : {xs : List Node} → Hand s b (h .tab) w (h .height) (h .marks) (h .used) (h .sheet) (h .due) r xs → xs ≡ h .due
+      go (literal e l a f) = absurd (omega (arith, e, st))
+      go (record-at e p q c a f) = absurd (omega (arith, e, st))
+      go (last e p q c) = absurd (omega (arith, e, st))
+      go (agenda e a f) = absurd (omega (arith, e, st))
+      go (failed e) = refl
+      go (way e c a f) = absurd (omega (arith, e, st))
+      go (list e l a f) = absurd (omega (arith, e, st))
 
-  -- it has no clause left, and goes
-  pub unmark : (y set′ : ℕ) → word w k 4 ≡ suc y → word w k 5 ≡ 0 → (y / 2 < ab → set′ ≡ r .set - bitOf y) → (ab ≤ y / 2 → set′ ≡ r .set)
-      → Holds s ab b (set w (y / 2) 0) (rested r k set′) all
-  unmark y set′ e c g d = go (v .held) (v .chosen) (v .area)
-    where
-      left : (cursor : ℕ) (ks : List Clause) → cursor ≡ 0 → Chain b (v .tab) cursor ks → ks ≡ []
-      left cursor ks e none = refl
-      left cursor ks e (one i l ch) = absurd (omega arith)
+  held-none : {k m used : ℕ} {sheet : List Lit} {due : List Node} → k ≡ 0 → Held s b (h .tab) w k m used sheet due → due ≡ []
+  held-none e bottom = refl
+  held-none e (under x) = held-none e x
+  held-none e (proving f a i u x) = absurd (omega arith)
+  held-none e (picking f a i x) = absurd (omega arith)
 
-      chosen : (sheet : List Lit) (z : ℕ) → z ≡ y → on sheet (pos (z / 2)) ≡ false → r .set ≡ assumed b (litOf z ∷ sheet) → set′ ≡ assumed b sheet
-      chosen sheet z q f mine =
-          ⊎-elim
-          (λ (t : ltb (y / 2) ab ≡ true).
-          let a : y / 2 < ab = ltb-true (y / 2) ab t in
-          let sum : assumed b (litOf y ∷ sheet) ≡ assumed b sheet + bitOf y = bit-sum sheet y (subst (λ (n : ℕ). on sheet (pos (n / 2)) ≡ false) q f) (omega (arith, a, v .ground .abducibles)) in
-          let now : r .set ≡ assumed b (litOf y ∷ sheet) = subst (λ (n : ℕ). r .set ≡ assumed b (litOf n ∷ sheet)) q mine in
-          omega (arith, g a))
-          (λ (t : ltb (y / 2) ab ≡ false).
-          let a : ab ≤ y / 2 = ltb-false (y / 2) ab t in
-          let now : r .set ≡ assumed b (litOf y ∷ sheet) = subst (λ (n : ℕ). r .set ≡ assumed b (litOf n ∷ sheet)) q mine in
-          d a ∙ now ∙ assumed-defined b sheet y (omega (arith, a, v .ground .abducibles)))
-          (decide (ltb (y / 2) ab))
+  -- no frame: nothing is due
+  nothing-due : r .top ≡ 8584 → all ≡ []
+  nothing-due t = all-due ∙ held-none (omega (arith, h .top)) (h .held)
 
-      go : {ags : List (List Task)} {sheet : List Lit} {all : List Node} → Held s b (v .tab) w (suc k) ags sheet all → r .set ≡ assumed b sheet
-          → Area (v .tab) w sheet → Holds s ab b (set w (y / 2) 0) (rested r k set′) all
-      go (wanting {ags = ags} {sheet = sheet} {due = due} {rest = rest} {ks = ks} z a u n p q ch f h) mine area =
-          let same : z ≡ y = omega (arith, u, e) in
-          let none-left : ks ≡ [] = left (word w k 5) ks c ch in
-          subst₂ (λ (m : ℕ) (js : List Clause). Holds s ab b (set w (m / 2) 0) (rested r k set′) (byClauses s b (v .tab) rest (litOf z ∷ sheet) js ++ due)) same (sym none-left)
-          (record {
-            tab = v .tab;
-            ags = ags;
-            sheet = sheet;
-            due = due;
-            ground = v .ground;
-            area = area-undo z n (p, q) area;
-            held = held-same s b (v .tab) (λ j i o. getD-set-other w (z / 2) j 0 0 (λ x. omega (arith, x, n, i))) h;
-            chosen = chosen sheet z same p mine;
-            low = omega (arith, v .low);
-            hand = idle refl;
-          })
-      go (picking a u ch f h) mine area = absurd (omega (arith, u, e))
+  module _ (ne : r .top ≡ 8584 → ⊥) where
+    up : h .height ≡ suc (h .height - 1)
+    up = positive (h .height) (λ z. ne (omega (arith, h .top, z)))
+      where
+        positive : (n : ℕ) → (n ≡ 0 → ⊥) → n ≡ suc (n - 1)
+        positive zero f = absurd (f refl)
+        positive (suc n) f = omega arith
 
-  -- the area with the frame's cursor moved
-  abbrev moved : ℕ → List ℕ
-  moved n = set w (1672 + 8 * k + 5) n
+    peeled : Peeled s b (h .tab) w (h .height - 1) (h .due) w (h .marks)
+    peeled = peel w (subst (λ (n : ℕ). Held s b (h .tab) w n (h .marks) (h .used) (h .sheet) (h .due)) up (h .held)) (h .trail) (h .area) (λ j p q. refl)
 
-  moved-area : (n : ℕ) {sheet : List Lit} → Area (v .tab) w sheet → Area (v .tab) (moved n) sheet
-  moved-area n a = area-same (length-set w (1672 + 8 * k + 5) n) (λ j i o. getD-set-other w (1672 + 8 * k + 5) j n 0 (λ x. omega (arith, x))) a
+    place : r .top - 7 ≡ 8584 + 7 * (h .height - 1)
+    place = omega (arith, h .top, up)
 
-  moved-cell : (n : ℕ) → cellAt w k ≡ cellAt (moved n) k
-  moved-cell n = same-cell w (moved n) k (λ j i o. getD-set-other w (1672 + 8 * k + 5) j n 0 (λ x. omega (arith, x)))
+    places : (2440 ≤ frame w (h .height - 1) 6) × (frame w (h .height - 1) 6 + 1 < 7560) × (frame w (h .height - 1) 0 ≡ 7560 + 4 * peeled .base) × (suc (h .height - 1) ≤ 896)
+    places = top-places (peeled .top)
 
-  moved-other : (n j : ℕ) → (j ≡ 5 → ⊥) → word (moved n) k j ≡ word w k j
-  moved-other n j h = getD-set-other w (1672 + 8 * k + 5) (1672 + 8 * k + j) n 0 (λ x. h (omega (arith, x)))
+    back-room : (8591 ≤ r .top) × (r .top ≤ 16384) × (16384 ≤ length w)
+    back-room = (omega (arith, h .top, up), omega (arith, h .top, up, places .3), h .area .long)
 
-  moved-cursor : (n : ℕ) → word (moved n) k 5 ≡ n
-  moved-cursor n = getD-set-same w (1672 + 8 * k + 5) n 0 (omega (arith, small))
+    module _ (down : ℕ) (d : down ≡ getD w (r .top - 7) 0) where
+      down-is : down ≡ 7560 + 4 * peeled .base
+      down-is = d ∙ ap (λ (i : ℕ). getD w i 0) (omega (arith, place)) ∙ places .2
 
-  leads : {ags : List (List Task)} {rest : List Task} → length ags ≡ k → Tail (rest ∷ ags) (r .top) rest
-  leads {ags} {rest} e = subst (λ (n : ℕ). Tail (rest ∷ ags) n rest) (omega (arith, v .height)) newest
-
-  -- a node in hand on the frames as they are
-  taken : {ags : List (List Task)} {sheet : List Lit} {due : List Node} {rest : List Task} (u : List ℕ) (c : Cell) (ts : List Task)
-      → Area (v .tab) u sheet → r .set ≡ assumed b sheet → Held s b (v .tab) u (suc k) (rest ∷ ags) sheet due
-      → Agenda s b (v .tab) (rest ∷ ags) c ts → Fine s b (v .tab) (suc k) (record { agenda = ts; sheet = sheet })
-      → Holds s ab b u (readied r c (r .top) (r .set)) (record { agenda = ts; sheet = sheet } ∷ due)
-  taken {ags} {sheet} {due} {rest} u c ts area mine h a f = record {
-    tab = v .tab;
-    ags = rest ∷ ags;
-    sheet = sheet;
-    due = due;
-    ground = v .ground;
-    area = area;
-    held = subst (λ (n : ℕ). Held s b (v .tab) u n (rest ∷ ags) sheet due) (sym (v .height)) h;
-    chosen = mine;
-    low = omega (arith, v .low, v .height);
-    hand = ready refl a (subst (λ (n : ℕ). Fine s b (v .tab) n (record { agenda = ts; sheet = sheet })) (sym (v .height)) f);
-  }
-
-  -- its next clause, number c
-  pub record Next (c : ℕ) : Type 0 where
-    pub index : ℕ
-    pub number : c ≡ suc index
-    pub there : index < length (b .clauses)
-    pub most : c ≤ 512
-    pub place : getD w (1024 + c) 0 ≡ clausePlace s index
-    pub body : Body s b index
-
-  next-at : (c : ℕ) {ks : List Clause} → (c ≡ 0 → ⊥) → Chain b (v .tab) c ks → Next c
-  next-at c n none = absurd (n refl)
-  next-at c n (one i l ch) =
-      let most : suc i ≤ 512 = omega (arith, l, within s b (v .ground .book) .clauses) in
-      record {
-        index = i;
-        number = refl;
-        there = l;
-        most = most;
-        place = v .area .tabled (1024 + suc i) (omega arith) (omega arith) ∙ v .ground .clause i l;
-        body = body-of s b (shown s b (v .ground .book)) i l;
+      back-undoable : Undoable w (r .marked) down
+      back-undoable = record {
+        count = peeled .n;
+        is = omega (arith, h .marked, down-is, peeled .is);
+        low = omega (arith, down-is);
+        high = omega (arith, h .marked, trail-few (h .trail));
+        long = h .area .long;
+        literals = λ j q. subst (λ (i : ℕ). getD w (i + 4 * j + 3) 0 < 512) (sym down-is) (peeled .literals j q);
       }
 
-  pub next-clause : (word w k 4 ≡ 0 → ⊥) → (word w k 5 ≡ 0 → ⊥) → Next (word w k 5)
-  next-clause n m = go (v .held)
-    where
-      go : {ags : List (List Task)} {sheet : List Lit} {all : List Node} → Held s b (v .tab) w (suc k) ags sheet all → Next (word w k 5)
-      go (wanting z a u x p q ch f h) = next-at (word w k 5) m ch
-      go (picking a u ch f h) = absurd (n u)
+      module _ (v : List ℕ) (e : v ≡ undone w down ((r .marked - down) / 4)) where
+        undone-is : undone w (7560 + 4 * peeled .base) (peeled .n) ≡ v
+        undone-is = ap₂ (undone w) (sym down-is) (omega (arith, h .marked, down-is, peeled .is)) ∙ sym e
 
-  -- the body's cell: the frame's own where it is empty
-  abbrev bodyCell : ℕ → ℕ → Cell → Cell
-  bodyCell place size rest = choose (eqb size 2) rest (record { kind = 1; from = place + 4; to = place + 2 + size; link = r .top })
+        v-same : Same w v 256 16384
+        v-same = subst (λ (l : List ℕ). Same w l 256 16384) undone-is (peeled .same)
 
-  body-agenda : {ags : List (List Task)} {rest : List Task} (i : ℕ) (own : Cell) → Body s b i → length ags ≡ k → Agenda s b (v .tab) ags own rest
-      → Agenda s b (v .tab) (rest ∷ ags) (bodyCell (clausePlace s i) (fieldAt s (clausePlace s i)) own) (map want (getD (b .clauses) i noClause .body) ++ rest)
-  body-agenda {ags} {rest} i own body e a = go (getD (b .clauses) i noClause .body) (body .size) (body .stands)
-    where
-      go : (ls : List Lit) → fieldAt s (clausePlace s i) ≡ 2 * suc (length ls) → Stands s (clausePlace s i + 4) (ofLits ls)
-          → Agenda s b (v .tab) (rest ∷ ags) (bodyCell (clausePlace s i) (fieldAt s (clausePlace s i)) own) (map want ls ++ rest)
-      go [] z st = rw (eq-eqb (fieldAt s (clausePlace s i)) 2 z) (raise s b (v .tab) a)
-      go (l ∷ ls) z st =
-          let to : clausePlace s i + 2 + fieldAt s (clausePlace s i) ≡ clausePlace s i + 4 + 2 * suc (length ls) = omega (arith, z) in
-          rw (ne-eqb (fieldAt s (clausePlace s i)) 2 (λ x. omega (arith, x, z)))
-          (more
-          (subst (λ (ks : List Lit). Own s b (v .tab) 1 (clausePlace s i + 4) (clausePlace s i + 2 + fieldAt s (clausePlace s i)) (map want ks)) (lits-at s (clausePlace s i + 4) (l ∷ ls) st)
-          (lits (length ls) to (body .fits)))
-          (leads e))
+        v-area : Area (h .tab) v (peeled .sheet)
+        v-area = subst (λ (l : List ℕ). Area (h .tab) l (peeled .sheet)) undone-is (peeled .area)
 
-  pub take-clause : (place : ℕ) → (word w k 4 ≡ 0 → ⊥) → (word w k 5 ≡ 0 → ⊥) → place ≡ getD w (1024 + word w k 5) 0
-      → Holds s ab b (moved (getD w (512 + word w k 5) 0)) (readied r (bodyCell place (fieldAt s place) (cellAt w k)) (r .top) (r .set)) all
-  take-clause place n m e = go (v .held) (v .chosen) (v .area)
-    where
-      step : {ags : List (List Task)} {sheet : List Lit} {due : List Node} {rest : List Task} {ks : List Clause} (c : ℕ) (y : ℕ) → c ≡ word w k 5
-          → Agenda s b (v .tab) ags (cellAt w k) rest → word w k 4 ≡ suc y → y / 2 < 256 → on sheet (pos (y / 2)) ≡ false → on sheet (neg (y / 2)) ≡ false
-          → Chain b (v .tab) c ks → Every (Fine s b (v .tab) (suc k)) (byClauses s b (v .tab) rest (litOf y ∷ sheet) ks) → Held s b (v .tab) w k ags sheet due
-          → r .set ≡ assumed b (litOf y ∷ sheet) → Area (v .tab) w (litOf y ∷ sheet)
-          → Holds s ab b (moved (getD w (512 + word w k 5) 0)) (readied r (bodyCell place (fieldAt s place) (cellAt w k)) (r .top) (r .set)) (byClauses s b (v .tab) rest (litOf y ∷ sheet) ks ++ due)
-      step c y i a u x p q none f h mine area = absurd (m (sym i))
-      step {ags} {sheet} {due} {rest} c y i a u x p q (one {ks = ks} j l ch) f h mine area =
-          let next : ℕ = getD w (512 + word w k 5) 0 in
-          let is = next-at (suc j) {ks = getD (b .clauses) j noClause ∷ ks} (λ z. omega (arith, z)) (one j l ch) in
-          let at : place ≡ clausePlace s j = e ∙ ap (λ (n : ℕ). getD w (1024 + n) 0) (sym i) ∙ v .area .tabled (1024 + suc j) (omega arith) (omega (arith, is .most)) ∙ v .ground .clause j l in
-          let onward : v .tab (512 + suc j) ≡ next = sym (v .area .tabled (512 + suc j) (omega arith) (omega (arith, is .most))) ∙ ap (λ (n : ℕ). getD w (512 + n) 0) i in
-          subst (λ (n : ℕ). Holds s ab b (moved next) (readied r (bodyCell n (fieldAt s n) (cellAt w k)) (r .top) (r .set)) (byClauses s b (v .tab) rest (litOf y ∷ sheet) (getD (b .clauses) j noClause ∷ ks) ++ due)) (sym at)
-          (taken {rest = rest} (moved next) (bodyCell (clausePlace s j) (fieldAt s (clausePlace s j)) (cellAt w k)) (map want (getD (b .clauses) j noClause .body) ++ rest)
-          (moved-area next area) mine
-          (wanting y
-          (subst (λ (d : Cell). Agenda s b (v .tab) ags d rest) (moved-cell next) a)
-          (moved-other next 4 (λ z. omega (arith, z)) ∙ u) x p q
-          (subst (λ (n : ℕ). Chain b (v .tab) n ks) (onward ∙ sym (moved-cursor next)) ch)
-          (every-rest f)
-          (held-same s b (v .tab) (λ o g t. getD-set-other w (1672 + 8 * k + 5) o next 0 (λ z. omega (arith, z))) h))
-          (body-agenda j (cellAt w k) (body-of s b (shown s b (v .ground .book)) j l) (held-length s b (v .tab) h) a)
-          (every-first f))
+        v-trail : Trail v (peeled .base) (peeled .sheet)
+        v-trail = subst (λ (l : List ℕ). Trail l (peeled .base) (peeled .sheet)) undone-is (peeled .trail)
 
-      go : {ags : List (List Task)} {sheet : List Lit} {all : List Node} → Held s b (v .tab) w (suc k) ags sheet all → r .set ≡ assumed b sheet
-          → Area (v .tab) w sheet → Holds s ab b (moved (getD w (512 + word w k 5) 0)) (readied r (bodyCell place (fieldAt s place) (cellAt w k)) (r .top) (r .set)) all
-      go (wanting y a u x p q ch f h) mine area = step (word w k 5) y refl a u x p q ch f h mine area
-      go (picking a u ch f h) mine area = absurd (n u)
+        v-later : drop 16384 v ≡ drop 16384 w
+        v-later = ap (drop 16384) (sym undone-is) ∙ peeled .later
 
-  -- ---- a frame of ways
+        module _ (n : ℕ) (i : n ≡ getD v (r .top - 7 + 6) 0) where
+          way-is : n ≡ frame w (h .height - 1) 6
+          way-is = i ∙ ap (λ (x : ℕ). getD v x 0) (omega (arith, place)) ∙ v-same (8584 + 7 * (h .height - 1) + 6) (omega arith) (omega (arith, places .3))
 
-  module _ (u : word w k 4 ≡ 0) where
-    -- it has no way left, and goes
-    pub no-way : word w k 6 ≤ word w k 5 → word w k 7 ≤ word w k 5 → Holds s ab b w (rested r k (r .set)) all
-    no-way p q = go (v .held) (v .chosen) (v .area)
-      where
-        left : (cursor turn stop : ℕ) (ways : List (List Lit)) → turn ≤ cursor → stop ≤ cursor → Ways s b (v .tab) cursor turn stop ways → ways ≡ []
-        left cursor turn stop ways i o (over x y) = refl
-        left cursor turn stop ways i o (single x y z) = absurd (omega arith)
-        left cursor turn stop ways i o (several n x y z f g) = absurd (omega arith)
+          back-way : (n + 1 < 7560) × (16384 ≤ length v)
+          back-way = (omega (arith, way-is, places .1), v-area .long)
 
-        go : {ags : List (List Task)} {sheet : List Lit} {all : List Node} → Held s b (v .tab) w (suc k) ags sheet all → r .set ≡ assumed b sheet
-            → Area (v .tab) w sheet → Holds s ab b w (rested r k (r .set)) all
-        go (wanting y a x n o t ch f h) mine area = absurd (omega (arith, x, u))
-        go (picking {ags = ags} {sheet = sheet} {due = due} {rest = rest} {ways = ways} a x ws f h) mine area =
-            subst (λ (l : List (List Lit)). Holds s ab b w (rested r k (r .set)) (byWays s b (v .tab) rest sheet l ++ due)) (sym (left (word w k 5) (word w k 6) (word w k 7) ways p q ws))
-            (record { tab = v .tab; ags = ags; sheet = sheet; due = due; ground = v .ground; area = area; held = h; chosen = mine; low = omega (arith, v .low); hand = idle refl })
+          module _ (more x : ℕ) (j : more ≡ getD v (n + 1) 0) (l : x ≡ getD v n 0) where
+            more-is : more ≡ h .tab (frame w (h .height - 1) 6 + 1)
+            more-is = j ∙ ap (λ (y : ℕ). getD v (y + 1) 0) way-is ∙ v-area .tabled (frame w (h .height - 1) 6 + 1) (omega (arith, places .0)) (places .1)
 
-    -- what stands at its cursor
-    pub way-there : (word w k 5 < word w k 6 → word w k 5 + 2 ≤ length s)
-        × (word w k 6 ≤ word w k 5 → word w k 5 < word w k 7 → word w k 5 + 2 + 2 * fieldAt s (word w k 5) ≤ length s)
-    way-there = go (v .held)
-      where
-        see : (cursor turn stop : ℕ) {ways : List (List Lit)} → Ways s b (v .tab) cursor turn stop ways
-            → (cursor < turn → cursor + 2 ≤ length s) × (turn ≤ cursor → cursor < stop → cursor + 2 + 2 * fieldAt s cursor ≤ length s)
-        see cursor turn stop (over x y) = (λ p. absurd (omega arith), λ p q. absurd (omega arith))
-        see cursor turn stop (single x y z) = (λ p. y, λ p q. absurd (omega arith))
-        see cursor turn stop (several n x y z f g) = (λ p. absurd (omega arith), λ p q. omega arith)
+            list-is : x ≡ h .tab (frame w (h .height - 1) 6)
+            list-is = l ∙ ap (λ (y : ℕ). getD v y 0) way-is ∙ v-area .tabled (frame w (h .height - 1) 6) (omega (arith, places .0)) (omega (arith, places .1))
 
-        go : {ags : List (List Task)} {sheet : List Lit} {all : List Node} → Held s b (v .tab) w (suc k) ags sheet all
-            → (word w k 5 < word w k 6 → word w k 5 + 2 ≤ length s)
-            × (word w k 6 ≤ word w k 5 → word w k 5 < word w k 7 → word w k 5 + 2 + 2 * fieldAt s (word w k 5) ≤ length s)
-        go (wanting y a x n o t ch f h) = absurd (omega (arith, x, u))
-        go (picking a x ws f h) = see (word w k 5) (word w k 6) (word w k 7) ws
+            written : set v (r .top - 7 + 6) more ≡ set v (8584 + 7 * (h .height - 1) + 6) (h .tab (frame w (h .height - 1) 6 + 1))
+            written = ap₂ (λ (y z : ℕ). set v y z) (omega (arith, place)) more-is
 
-    -- the frame with its cursor moved to the ways that are left
-    moved-held : {ags : List (List Task)} {sheet : List Lit} {due : List Node} {rest : List Task} {ways : List (List Lit)} (n : ℕ)
-        → Agenda s b (v .tab) ags (cellAt w k) rest → Ways s b (v .tab) n (word w k 6) (word w k 7) ways
-        → Every (Fine s b (v .tab) (suc k)) (byWays s b (v .tab) rest sheet ways) → Held s b (v .tab) w k ags sheet due
-        → Held s b (v .tab) (moved n) (suc k) (rest ∷ ags) sheet (byWays s b (v .tab) rest sheet ways ++ due)
-    moved-held {ags} {sheet} {due} {rest} {ways} n a ws f h =
-        picking
-        (subst (λ (d : Cell). Agenda s b (v .tab) ags d rest) (moved-cell n) a)
-        (moved-other n 4 (λ z. omega (arith, z)) ∙ u)
-        (same-ways s b (v .tab) (sym (moved-cursor n)) (sym (moved-other n 6 (λ z. omega (arith, z)))) (sym (moved-other n 7 (λ z. omega (arith, z)))) ws)
-        f
-        (held-same s b (v .tab) (λ o g t. getD-set-other w (1672 + 8 * k + 5) o n 0 (λ z. omega (arith, z))) h)
+            back-pops : more ≡ 0 → Holds s b (set v (r .top - 7 + 6) more) (giving (lowered (restoring v r (r .top - 7) down) (r .top - 7)) 3 x) all
+            back-pops z =
+                subst (λ (l : List Node). Holds s b (set v (r .top - 7 + 6) more) (giving (lowered (restoring v r (r .top - 7) down) (r .top - 7)) 3 x) l) (sym all-due)
+                (subst₂ (λ (l : List ℕ) (o : Run). Holds s b l o (h .due)) (sym written)
+                (sym (run-popped v r (r .top - 7) down x (h .height - 1) (7560 + 4 * peeled .base) (8584 + 7 * (h .height - 1)) (h .tab (frame w (h .height - 1) 6)) place down-is list-is place))
+                (pop-holds s b (h .tab) w (h .height - 1) r v v-same (places .3) (peeled .base) (peeled .sheet) (h .due) (h .ground) v-trail v-area (peeled .top) (sym more-is ∙ z)))
 
-    -- the opposite of a literal
-    pub take-literal : word w k 5 < word w k 6
-        → Holds s ab b (moved (word w k 5 + 2)) (readied r (record { kind = 2; from = word w k 5; to = word w k 5 + 2; link = r .top }) (r .top) (r .set)) all
-    take-literal p = go (v .held) (v .chosen) (v .area)
-      where
-        step : {ags : List (List Task)} {sheet : List Lit} {due : List Node} {rest : List Task} {ways : List (List Lit)} (cursor turn stop : ℕ)
-            → turn ≡ word w k 6 → stop ≡ word w k 7 → cursor < turn
-            → Agenda s b (v .tab) ags (cellAt w k) rest → Ways s b (v .tab) cursor turn stop ways → Every (Fine s b (v .tab) (suc k)) (byWays s b (v .tab) rest sheet ways)
-            → Held s b (v .tab) w k ags sheet due → r .set ≡ assumed b sheet → Area (v .tab) w sheet
-            → Holds s ab b (moved (cursor + 2)) (readied r (record { kind = 2; from = cursor; to = cursor + 2; link = r .top }) (r .top) (r .set)) (byWays s b (v .tab) rest sheet ways ++ due)
-        step cursor turn stop t o q a (over x y) f h mine area = absurd (omega arith)
-        step cursor turn stop t o q a (several n x y z g d) f h mine area = absurd (omega arith)
-        step {ags} {sheet} {due} {rest} cursor turn stop t o q a (single {ways = ways} x y z) f h mine area =
-            taken {rest = rest} (moved (cursor + 2)) (record { kind = 2; from = cursor; to = cursor + 2; link = r .top })
-            (want (opposite (litOf (fieldAt s cursor))) ∷ rest)
-            (moved-area (cursor + 2) area) mine
-            (moved-held (cursor + 2) a (same-ways s b (v .tab) refl t o z) (every-rest f) h)
-            (more (flip refl y) (leads (held-length s b (v .tab) h)))
-            (every-first f)
+            back-keeps : (more ≡ 0 → ⊥) → Holds s b (set v (r .top - 7 + 6) more) (giving (restoring v r (r .top - 7) down) 3 x) all
+            back-keeps nz =
+                let high : r .top ≡ 8584 + 7 * suc (h .height - 1) = omega (arith, h .top, up) in
+                subst (λ (l : List Node). Holds s b (set v (r .top - 7 + 6) more) (giving (restoring v r (r .top - 7) down) 3 x) l) (sym all-due)
+                (subst₂ (λ (l : List ℕ) (o : Run). Holds s b l o (h .due)) (sym written)
+                (sym (run-back v r (r .top - 7) down x (h .height - 1) (7560 + 4 * peeled .base) (8584 + 7 * suc (h .height - 1)) (h .tab (frame w (h .height - 1) 6)) place down-is list-is high))
+                (keep-holds s b (h .tab) w (h .height - 1) r v v-same (places .3) (peeled .base) (peeled .sheet) (h .due) (h .ground) v-trail v-area (peeled .top) (λ z. nz (more-is ∙ z))))
 
-        go : {ags : List (List Task)} {sheet : List Lit} {all : List Node} → Held s b (v .tab) w (suc k) ags sheet all → r .set ≡ assumed b sheet → Area (v .tab) w sheet
-            → Holds s ab b (moved (word w k 5 + 2)) (readied r (record { kind = 2; from = word w k 5; to = word w k 5 + 2; link = r .top }) (r .top) (r .set)) all
-        go (wanting y a x n o t ch f h) mine area = absurd (omega (arith, x, u))
-        go (picking a x ws f h) mine area = step (word w k 5) (word w k 6) (word w k 7) refl refl p a ws f h mine area
+module _ (w : List ℕ) (r : Run) (pre : Stands w r 5) where
+  failing : r .state ≡ 5
+  failing = pre .1 .state
 
-    -- an alternative
-    pub take-way : word w k 6 ≤ word w k 5 → word w k 5 < word w k 7
-        → Holds s ab b (moved (word w k 5 + 2 + 2 * fieldAt s (word w k 5))) (readied r (record { kind = 1; from = word w k 5 + 2; to = word w k 5 + 2 + 2 * fieldAt s (word w k 5); link = r .top }) (r .top) (r .set)) all
-    take-way p q = go (v .held) (v .chosen) (v .area)
-      where
-        step : {ags : List (List Task)} {sheet : List Lit} {due : List Node} {rest : List Task} {ways : List (List Lit)} (cursor turn stop : ℕ)
-            → turn ≡ word w k 6 → stop ≡ word w k 7 → turn ≤ cursor → cursor < stop
-            → Agenda s b (v .tab) ags (cellAt w k) rest → Ways s b (v .tab) cursor turn stop ways → Every (Fine s b (v .tab) (suc k)) (byWays s b (v .tab) rest sheet ways)
-            → Held s b (v .tab) w k ags sheet due → r .set ≡ assumed b sheet → Area (v .tab) w sheet
-            → Holds s ab b (moved (cursor + 2 + 2 * fieldAt s cursor)) (readied r (record { kind = 1; from = cursor + 2; to = cursor + 2 + 2 * fieldAt s cursor; link = r .top }) (r .top) (r .set)) (byWays s b (v .tab) rest sheet ways ++ due)
-        step cursor turn stop t o i j a (over x y) f h mine area = absurd (omega arith)
-        step cursor turn stop t o i j a (single x y z) f h mine area = absurd (omega arith)
-        step {ags} {sheet} {due} {rest} cursor turn stop t o i j a (several {ways = ways} n x y z g d) f h mine area =
-            subst (λ (m : ℕ). Holds s ab b (moved (cursor + 2 + 2 * m)) (readied r (record { kind = 1; from = cursor + 2; to = cursor + 2 + 2 * m; link = r .top }) (r .top) (r .set)) (byWays s b (v .tab) rest sheet (litsAt s (cursor + 2) (suc n) ∷ ways) ++ due)) (sym z)
-            (taken {rest = rest} (moved (cursor + 2 + 2 * suc n)) (record { kind = 1; from = cursor + 2; to = cursor + 2 + 2 * suc n; link = r .top })
-            (map want (litsAt s (cursor + 2) (suc n)) ++ rest)
-            (moved-area (cursor + 2 + 2 * suc n) area) mine
-            (moved-held (cursor + 2 + 2 * suc n) a (same-ways s b (v .tab) refl t o d) (every-rest f) h)
-            (more (lits n refl g) (leads (held-length s b (v .tab) h)))
-            (every-first f))
+  pub backed-over : (q : Run) → r .top ≡ 8584 → q ≡ turning r 1 → Backed w r w q
+  backed-over q t e = over (λ s b all h. nothing-due s b w r all h failing t) refl e
 
-        go : {ags : List (List Task)} {sheet : List Lit} {all : List Node} → Held s b (v .tab) w (suc k) ags sheet all → r .set ≡ assumed b sheet → Area (v .tab) w sheet
-            → Holds s ab b (moved (word w k 5 + 2 + 2 * fieldAt s (word w k 5))) (readied r (record { kind = 1; from = word w k 5 + 2; to = word w k 5 + 2 + 2 * fieldAt s (word w k 5); link = r .top }) (r .top) (r .set)) all
-        go (wanting y a x n o t ch f h) mine area = absurd (omega (arith, x, u))
-        go (picking a x ws f h) mine area = step (word w k 5) (word w k 6) (word w k 7) refl refl p q a ws f h mine area
+  module _ (ne : r .top ≡ 8584 → ⊥) where
+    pub frame-room : (8591 ≤ r .top) × (r .top ≤ 16384) × (16384 ≤ length w)
+    frame-room = back-room (pre .0) (pre .1 .b) w r (pre .1 .all) (pre .1 .holds) failing ne
+
+    module _ (down : ℕ) (d : down ≡ getD w (r .top - 7) 0) where
+      pub frame-undoable : Undoable w (r .marked) down
+      frame-undoable = back-undoable (pre .0) (pre .1 .b) w r (pre .1 .all) (pre .1 .holds) failing ne down d
+
+      module _ (v : List ℕ) (e : v ≡ undone w down ((r .marked - down) / 4)) (n : ℕ) (i : n ≡ getD v (r .top - 7 + 6) 0) where
+        pub frame-way : (n + 1 < 7560) × (16384 ≤ length v)
+        frame-way = back-way (pre .0) (pre .1 .b) w r (pre .1 .all) (pre .1 .holds) failing ne down d v e n i
+
+        module _ (more x : ℕ) (j : more ≡ getD v (n + 1) 0) (l : x ≡ getD v n 0) (p q : Run) (o : p ≡ restoring v r (r .top - 7) down) where
+          later-same : drop 16384 (set v (r .top - 7 + 6) more) ≡ drop 16384 w
+          later-same =
+              drop-set-lt 16384 v (r .top - 7 + 6) more (omega (arith, frame-room .0, frame-room .1))
+              ∙ v-later (pre .0) (pre .1 .b) w r (pre .1 .all) (pre .1 .holds) failing ne down d v e
+
+          pub backed-pops : (t : Run) → more ≡ 0 → t ≡ lowered p (r .top - 7) → q ≡ giving t 3 x → Backed w r (set v (r .top - 7 + 6) more) q
+          backed-pops t z y u =
+              let run : q ≡ giving (lowered (restoring v r (r .top - 7) down) (r .top - 7)) 3 x =
+              u ∙ ap (λ (g : Run). giving g 3 x) (y ∙ ap (λ (g : Run). lowered g (r .top - 7)) o) in
+              back-to
+              (λ s.
+              subst (λ (g : Run). Moved s w r (set v (r .top - 7 + 6) more) g 3) (sym run)
+              (record {
+                holds = λ b all h. back-pops s b w r all h failing ne down d v e n i more x j l z;
+                state = omega arith;
+                nodes = refl;
+                count = refl;
+                later = later-same;
+              }))
+
+          pub backed-keeps : (more ≡ 0 → ⊥) → q ≡ giving p 3 x → Backed w r (set v (r .top - 7 + 6) more) q
+          backed-keeps nz u =
+              let run : q ≡ giving (restoring v r (r .top - 7) down) 3 x = u ∙ ap (λ (g : Run). giving g 3 x) o in
+              back-to
+              (λ s.
+              subst (λ (g : Run). Moved s w r (set v (r .top - 7 + 6) more) g 3) (sym run)
+              (record {
+                holds = λ b all h. back-keeps s b w r all h failing ne down d v e n i more x j l nz;
+                state = omega arith;
+                nodes = refl;
+                count = refl;
+                later = later-same;
+              }))

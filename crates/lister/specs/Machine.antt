@@ -1,51 +1,69 @@
--- The lister's machine: what its cells, frames and marks in the work area say, as tasks, nodes due and a sheet.
+-- The lister's machine: what its tables, its trail, its frames and its run say, as tasks, nodes due and a sheet.
 -- Assumes nothing.
-use Prim.Native.Nat.{ℕ, suc, _+_, _*_, _/_, _%_, _≤_, _<_}
+use Prim.Native.Nat.{ℕ, suc, _+_, _*_, _/_, _≤_, _<_}
 use mathlib.Core.Path.{_≡_}
 use mathlib.Core.Bool.{Bool, true, false}
+use mathlib.Core.Logic.{_⊎_}
 use mathlib.Core.List.{List, [], _∷_, _++_, map}
 use lib.ListN.{length, getD, drop}
-use lib.Seq.{sets}
 use Rattle.base.specs.Lists.{Every}
-use Rattle.book.specs.Book.{Lit, Clause, Book}
-use Rattle.book.specs.Walk.{fieldAt}
+use Rattle.book.specs.Book.{Lit, Clause, Constraint, Book}
 use Rattle.book.specs.Decode.{litOf, decode, accepted}
-use Rattle.book.specs.Shown.{litsAt, clausePlace, constraintPlace, noClause}
+use Rattle.book.specs.Shown.{litsAt}
 use Rattle.judging.specs.Meaning.{clausesFor}
-use Rattle.searching.specs.Rules.{opposite, Task, want, break, keep, Node, on, assumed}
+use Rattle.searching.specs.Rules.{Task, want, pick, break, keep, Node, on, assumed}
 use Rattle.searching.specs.Bounds.{frames, Named}
-use Rattle.lister.specs.declared.frames.Cell.{Cell}
-use Rattle.lister.specs.declared.walk.Run.{Run}
+use Rattle.lister.specs.declared.moves.Run.{Run}
+
+-- ---- the tables, which the search does not write: numbers 256 to 7,559
+
+module _ (s : List ℕ) (tab : ℕ → ℕ) where
+  -- a list of literals as one number: one literal, none, or a part of the image
+  pub data Listed : ℕ → List Lit → Type 0 where
+    single : {x : ℕ} → x < 512 → Listed x (litOf x ∷ [])
+    none : Listed 512 []
+    part : {from n : ℕ} → from < 16384 → 2 ≤ n → from + 2 * n ≤ length s → Listed (from + 16384 * n) (litsAt s from n)
+
+  -- the ways from way w on, and the list of literals of each; 0 is none
+  pub data Chain : ℕ → List (List Lit) → Type 0 where
+    end : Chain 0 []
+    way : {w : ℕ} {ls : List Lit} {lss : List (List Lit)} → 2440 ≤ w → w + 1 < 7560 → Listed (tab w) ls → Chain (tab (w + 1)) lss → Chain w (ls ∷ lss)
+
+  -- the records from record e on, each a pick of its ways; 0 is none
+  pub data Records : ℕ → List Task → Type 0 where
+    end : Records 0 []
+    record-at : {e : ℕ} {lss : List (List Lit)} {ts : List Task} → 768 ≤ e → e + 1 < 2050 → Chain (tab e) lss
+        → Every (λ (ls : List Lit). length ls ≤ 1) lss ⊎ (tab (e + 1) ≡ 0) → Records (tab (e + 1)) ts → Records e (pick lss ∷ ts)
+
+-- what the number of a literal of a defined atom says: the ways to it, where it is wanted true; the records to break, where it is wanted false
+pub data Denied (s : List ℕ) (tab : ℕ → ℕ) : ℕ → List Task → Type 0 where
+  undefined : Denied s tab 1 []
+  broken : {e : ℕ} {t : Task} {ts : List Task} → Records s tab e (t ∷ ts) → Denied s tab e (t ∷ ts)
+
+pub record Ground (s : List ℕ) (b : Book) (tab : ℕ → ℕ) : Type 0 where
+  pub book : decode s ≡ accepted b
+  -- an abducible joins the set, and its opposite joins
+  pub assumable : (p : ℕ) → p < b .abducibles → (tab (256 + 2 * p) ≡ 2) × (tab (256 + 2 * p + 1) ≡ 1)
+  -- a defined atom is reached through its clauses, and denied by breaking them
+  pub reached : (p : ℕ) → b .abducibles ≤ p → p < b .atoms → Chain s tab (tab (256 + 2 * p)) (map (λ (c : Clause). c .body) (clausesFor b p))
+  pub denied : (p : ℕ) → b .abducibles ≤ p → p < b .atoms → Denied s tab (tab (256 + 2 * p + 1)) (map break (clausesFor b p))
+  -- the record of each constraint, the end behind them, and the cells of the constraints from each on
+  pub rule : (k : ℕ) (c : Constraint) (cs : List Constraint) → drop k (b .constraints) ≡ c ∷ cs → Records s tab (1792 + 2 * k) (keep c ∷ [])
+  pub last : tab (1792 + 2 * length (b .constraints)) ≡ 1
+  pub cell : (k : ℕ) → k ≤ length (b .constraints) → (tab (2050 + 3 * k) ≡ 1792 + 2 * k) × (tab (2050 + 3 * k + 1) ≡ 0) × (tab (2050 + 3 * k + 2) ≡ 2050 + 3 * (k + 1))
 
 -- ---- the work area
-
--- number j of frame k
-abbrev pub word : List ℕ → ℕ → ℕ → ℕ
-word w k j = getD w (1672 + 8 * k + j) 0
-
--- the cell that frame k holds
-abbrev pub cellAt : List ℕ → ℕ → Cell
-cellAt w k = record { kind = word w k 0; from = word w k 1; to = word w k 2; link = word w k 3 }
-
--- a frame written over frame k
-unfoldable pub framed : List ℕ → ℕ → Cell → ℕ → ℕ → ℕ → ℕ → List ℕ
-framed w k c undo cursor turn stop =
-    sets w (1672 + 8 * k) (c .kind ∷ c .from ∷ c .to ∷ c .link ∷ undo ∷ cursor ∷ turn ∷ stop ∷ [])
 
 -- the numbers from lo up to hi are the same
 abbrev pub Same : List ℕ → List ℕ → ℕ → ℕ → Type 0
 Same w v lo hi = (j : ℕ) → lo ≤ j → j < hi → getD v j 0 ≡ getD w j 0
 
--- the literal of a cell of this kind where the image has x: itself at 1, its opposite at 2
-abbrev pub wantedOf : ℕ → ℕ → ℕ
-wantedOf kind x = x / 2 * 2 + (x + kind + 1) % 2
-
--- the mark of an atom that is wanted true or not, and wanted false or not
-abbrev pub markOf : Bool → Bool → ℕ
-markOf true true = 3
-markOf true false = 1
-markOf false true = 2
-markOf false false = 0
+-- the mark of atom p, which is wanted true or not, and wanted false or not: 0, or its literal and 1; no mark says both
+abbrev pub markOf : ℕ → Bool → Bool → ℕ
+markOf p true true = 2 * p + 3
+markOf p true false = 2 * p + 1
+markOf p false true = 2 * p + 2
+markOf p false false = 0
 
 abbrev pub pos : ℕ → Lit
 pos p = record { atom = p; sign = true }
@@ -53,94 +71,121 @@ pos p = record { atom = p; sign = true }
 abbrev pub neg : ℕ → Lit
 neg p = record { atom = p; sign = false }
 
--- ---- the tables
-
--- these clauses stand in the chain from clause c on (from 1; 0 ends it)
-pub data Chain (b : Book) (tab : ℕ → ℕ) : ℕ → List Clause → Type 0 where
-  none : Chain b tab 0 []
-  one : {ks : List Clause} (i : ℕ) → i < length (b .clauses) → Chain b tab (tab (512 + suc i)) ks
-      → Chain b tab (suc i) (getD (b .clauses) i noClause ∷ ks)
-
-pub record Ground (s : List ℕ) (ab : ℕ) (b : Book) (tab : ℕ → ℕ) : Type 0 where
-  pub book : decode s ≡ accepted b
-  pub abducibles : ab ≡ b .abducibles
-  pub first : (p : ℕ) → p < 256 → Chain b tab (tab (256 + p)) (clausesFor b p)
-  pub clause : (i : ℕ) → i < length (b .clauses) → tab (1024 + suc i) ≡ clausePlace s i
-  pub rule : (i : ℕ) → i < length (b .constraints) → tab (1537 + i) ≡ constraintPlace s i
-
--- the work area has the tables, and the marks of the sheet
+-- it has the tables, and the marks of the sheet
 pub record Area (tab : ℕ → ℕ) (w : List ℕ) (sheet : List Lit) : Type 0 where
   pub long : 16384 ≤ length w
-  pub tabled : (j : ℕ) → 256 ≤ j → j < 1672 → getD w j 0 ≡ tab j
-  pub marked : (p : ℕ) → p < 256 → getD w p 0 ≡ markOf (on sheet (pos p)) (on sheet (neg p))
+  pub tabled : (j : ℕ) → 256 ≤ j → j < 7560 → getD w j 0 ≡ tab j
+  pub marked : (p : ℕ) → p < 256 → getD w p 0 ≡ markOf p (on sheet (pos p)) (on sheet (neg p))
 
--- ---- tasks
+-- number i of trail entry j, and of frame k
+abbrev pub entry : List ℕ → ℕ → ℕ → ℕ
+entry w j i = getD w (7560 + 4 * j + i) 0
 
--- what frame a's agenda is, frames counted from 1
-pub data Tail : List (List Task) → ℕ → List Task → Type 0 where
-  newest : {us : List Task} {ags : List (List Task)} → Tail (us ∷ ags) (suc (length ags)) us
-  under : {us vs : List Task} {ags : List (List Task)} {a : ℕ} → Tail ags a us → Tail (vs ∷ ags) a us
+abbrev pub frame : List ℕ → ℕ → ℕ → ℕ
+frame w k i = getD w (8584 + 7 * k + i) 0
 
-module _ (s : List ℕ) (b : Book) (tab : ℕ → ℕ) where
-  -- the tasks of a cell itself
-  pub data Own : ℕ → ℕ → ℕ → List Task → Type 0 where
-    lits : {from to : ℕ} (n : ℕ) → to ≡ from + 2 * suc n → to ≤ length s → Own 1 from to (map want (litsAt s from (suc n)))
-    flip : {from to : ℕ} → to ≡ from + 2 → to ≤ length s → Own 2 from to (want (opposite (litOf (fieldAt s from))) ∷ [])
-    breaks : {c to : ℕ} {ks : List Clause} → 1 ≤ c → Chain b tab c ks → Own 3 c to (map break ks)
-    rules : {i to : ℕ} → i < to → to ≡ length (b .constraints) → Own 4 i to (map keep (drop i (b .constraints)))
+-- the first m entries of the trail have the literals of the sheet, each of an atom that was free
+pub data Trail (w : List ℕ) : ℕ → List Lit → Type 0 where
+  none : Trail w 0 []
+  marks : {m : ℕ} {sheet : List Lit} (y : ℕ) → entry w m 3 ≡ y → y < 512 → on sheet (pos (y / 2)) ≡ false → on sheet (neg (y / 2)) ≡ false
+      → Trail w m sheet → Trail w (suc m) (litOf y ∷ sheet)
 
-  -- the agenda of a cell: nothing, or its own tasks and then what its link leads to
-  pub data Agenda (ags : List (List Task)) (c : Cell) : List Task → Type 0 where
-    done : c .kind ≡ 0 → Agenda ags c []
-    more : {ts us : List Task} → Own (c .kind) (c .from) (c .to) ts → Tail ags (c .link) us → Agenda ags c (ts ++ us)
+-- ---- agendas
 
-  -- the lists of literals that are left to pick from
-  pub data Ways : ℕ → ℕ → ℕ → List (List Lit) → Type 0 where
-    over : {cursor turn stop : ℕ} → turn ≤ cursor → stop ≤ cursor → Ways cursor turn stop []
-    single : {cursor turn stop : ℕ} {ways : List (List Lit)} → cursor < turn → cursor + 2 ≤ length s → Ways (cursor + 2) turn stop ways
-        → Ways cursor turn stop ((opposite (litOf (fieldAt s cursor)) ∷ []) ∷ ways)
-    several : {cursor turn stop : ℕ} {ways : List (List Lit)} (n : ℕ) → turn ≤ cursor → cursor < stop → fieldAt s cursor ≡ suc n
-        → cursor + 2 + 2 * suc n ≤ length s → Ways (cursor + 2 + 2 * suc n) turn stop ways
-        → Ways cursor turn stop (litsAt s (cursor + 2) (suc n) ∷ ways)
+-- an agenda's own tasks: literals of the image, or records
+pub data Own (s : List ℕ) (tab : ℕ → ℕ) : ℕ → ℕ → List Task → Type 0 where
+  lits : {at end : ℕ} (n : ℕ) → end ≡ at + 2 * suc n → end ≤ length s → Own s tab at end (map want (litsAt s at (suc n)))
+  records : {e : ℕ} {t : Task} {ts : List Task} → Records s tab e (t ∷ ts) → Own s tab e 0 (t ∷ ts)
 
-  -- a node with k frames below it: there is memory for all that it can need, and it names atoms of the book only
-  abbrev pub Fine : ℕ → Node → Type 0
-  Fine k n = (k + frames b n ≤ 898) × Every (Named b) (n .agenda)
+-- a node with k frames below it: there is memory for all that it can need, and it names atoms of the book only
+abbrev pub Fine : Book → ℕ → Node → Type 0
+Fine b k n = (k + frames b n ≤ 896) × Every (Named b) (n .agenda)
 
-  -- the nodes that clauses, or ways, lead to
-  abbrev pub byClauses : List Task → List Lit → List Clause → List Node
-  byClauses rest sheet ks = map (λ (c : Clause). record { agenda = map want (c .body) ++ rest; sheet = sheet }) ks
+-- the nodes that ways lead to
+abbrev pub byWays : List Task → List Lit → List (List Lit) → List Node
+byWays us sheet lss = map (λ (ls : List Lit). record { agenda = map want ls ++ us; sheet = sheet }) lss
 
-  abbrev pub byWays : List Task → List Lit → List (List Lit) → List Node
-  byWays rest sheet ways = map (λ (way : List Lit). record { agenda = map want way ++ rest; sheet = sheet }) ways
+-- no list of more than one literal: entering it lays nothing down
+abbrev pub Short : List (List Lit) → Type 0
+Short lss = Every (λ (ls : List Lit). length ls ≤ 1) lss
 
-  -- k frames hold these agendas, this sheet and these nodes due
-  pub data Held (w : List ℕ) : ℕ → List (List Task) → List Lit → List Node → Type 0 where
-    bottom : Held w 0 [] [] []
-    wanting : {k : ℕ} {ags : List (List Task)} {sheet : List Lit} {due : List Node} {rest : List Task} {ks : List Clause} (y : ℕ)
-        → Agenda ags (cellAt w k) rest → word w k 4 ≡ suc y → y / 2 < 256 → on sheet (pos (y / 2)) ≡ false → on sheet (neg (y / 2)) ≡ false
-        → Chain b tab (word w k 5) ks → Every (Fine (suc k)) (byClauses rest (litOf y ∷ sheet) ks)
-        → Held w k ags sheet due → Held w (suc k) (rest ∷ ags) (litOf y ∷ sheet) (byClauses rest (litOf y ∷ sheet) ks ++ due)
-    picking : {k : ℕ} {ags : List (List Task)} {sheet : List Lit} {due : List Node} {rest : List Task} {ways : List (List Lit)}
-        → Agenda ags (cellAt w k) rest → word w k 4 ≡ 0 → Ways (word w k 5) (word w k 6) (word w k 7) ways
-        → Every (Fine (suc k)) (byWays rest sheet ways)
-        → Held w k ags sheet due → Held w (suc k) (rest ∷ ags) sheet (byWays rest sheet ways ++ due)
+module _ (s : List ℕ) (b : Book) (tab : ℕ → ℕ) (w : List ℕ) where
+  -- what the cell at a link leads to: the constraints from k on, or an agenda laid down in one of the first m entries of the trail
+  pub data Tail : ℕ → ℕ → List Task → Type 0 where
+    rules : {m : ℕ} (k : ℕ) → k ≤ length (b .constraints) → Tail m (2050 + 3 * k) (map keep (drop k (b .constraints)))
+    laid : {m : ℕ} {ts us : List Task} (j : ℕ) → j < m → Own s tab (entry w j 0) (entry w j 1) ts → Tail j (entry w j 2) us → Tail m (7560 + 4 * j) (ts ++ us)
 
-  -- what is due: the frames' nodes, and before them the node in hand, where there is one
-  pub data Hand (ags : List (List Task)) (sheet : List Lit) (due : List Node) (r : Run) : List Node → Type 0 where
-    idle : r .due ≡ 0 → Hand ags sheet due r due
-    ready : {ts : List Task} → r .due ≡ 1 → Agenda ags (record { kind = r .kind; from = r .from; to = r .to; link = r .link }) ts
-        → Fine (r .top) (record { agenda = ts; sheet = sheet }) → Hand ags sheet due r (record { agenda = ts; sheet = sheet } ∷ due)
+  -- an agenda: its own tasks, if any, and what its link leads to
+  pub data Agenda (m : ℕ) : ℕ → ℕ → ℕ → List Task → Type 0 where
+    linked : {at end link : ℕ} {us : List Task} → at ≡ end → at < 16384 → Tail m link us → Agenda m at end link us
+    more : {at end link : ℕ} {ts us : List Task} → Own s tab at end ts → Tail m link us → Agenda m at end link (ts ++ us)
+
+  -- Where a way is entered with m entries, of which the frames use the first `used`, its rest can be laid down in the newest, or need not be: the
+  -- newest is used by no one, or the lists are short, or the agenda behind is but its link.
+  pub data Free : ℕ → ℕ → ℕ → ℕ → ℕ → List Task → List (List Lit) → Type 0 where
+    older : {m used at end link : ℕ} {ts : List Task} {lss : List (List Lit)} → used ≤ m → Agenda m at end link ts → Free (suc m) used at end link ts lss
+    short : {m used at end link : ℕ} {ts : List Task} {lss : List (List Lit)} → Agenda m at end link ts → Short lss → Free m used at end link ts lss
+    empty : {m used at end link : ℕ} {ts : List Task} {lss : List (List Lit)} → at ≡ end → at < 16384 → Tail m link ts → Free m used at end link ts lss
+
+  -- frame k holds these ways, with this agenda behind them
+  pub record Frame (k m : ℕ) (sheet : List Lit) (lss : List (List Lit)) : Type 0 where
+    pub marked : frame w k 0 ≡ 7560 + 4 * m
+    pub set : frame w k 1 + 4294967296 * frame w k 2 ≡ assumed b sheet
+    pub ways : Chain s tab (frame w k 6) lss
+
+  -- k frames hold these nodes due, and use the first `used` of m entries, which have this sheet
+  pub data Held : ℕ → ℕ → ℕ → List Lit → List Node → Type 0 where
+    bottom : Held 0 0 0 [] []
+    -- marked since
+    under : {k m used : ℕ} {sheet : List Lit} {l : Lit} {due : List Node} → Held k m used sheet due → Held k (suc m) used (l ∷ sheet) due
+    -- pushed as a literal was marked: the agenda behind is older than its entry
+    proving : {k m used : ℕ} {sheet : List Lit} {due : List Node} {rest : List Task} {ls : List Lit} {lss : List (List Lit)}
+        → Frame k (suc m) sheet (ls ∷ lss) → Agenda m (frame w k 3) (frame w k 4) (frame w k 5) rest
+        → Every (Fine b (suc k)) (byWays rest sheet (ls ∷ lss))
+        → used ≤ m → Held k (suc m) used sheet due → Held (suc k) (suc m) m sheet (byWays rest sheet (ls ∷ lss) ++ due)
+    -- pushed at a break or a constraint
+    picking : {k m used : ℕ} {sheet : List Lit} {due : List Node} {rest : List Task} {ls : List Lit} {lss : List (List Lit)}
+        → Frame k m sheet (ls ∷ lss) → Free m m (frame w k 3) (frame w k 4) (frame w k 5) rest (ls ∷ lss)
+        → Every (Fine b (suc k)) (byWays rest sheet (ls ∷ lss))
+        → Held k m used sheet due → Held (suc k) m m sheet (byWays rest sheet (ls ∷ lss) ++ due)
+
+  -- ---- the run: what is due, before what the frames hold, by its state
+
+  pub data Hand (k m used : ℕ) (sheet : List Lit) (due : List Node) (r : Run) : List Node → Type 0 where
+    -- a literal in hand, a record, or the end of all tasks
+    literal : {ts : List Task} → r .state ≡ 0 → r .task < 512 → Agenda m (r .at) (r .end) (r .link) ts
+        → Fine b k (record { agenda = want (litOf (r .task)) ∷ ts; sheet = sheet })
+        → Hand k m used sheet due r (record { agenda = want (litOf (r .task)) ∷ ts; sheet = sheet } ∷ due)
+    record-at : {lss : List (List Lit)} {ts : List Task} → r .state ≡ 0 → 768 ≤ r .task → r .task + 1 < 2050 → Chain s tab (tab (r .task)) lss
+        → Free m m (r .at) (r .end) (r .link) ts lss → Fine b k (record { agenda = pick lss ∷ ts; sheet = sheet })
+        → Hand k m used sheet due r (record { agenda = pick lss ∷ ts; sheet = sheet } ∷ due)
+    last : r .state ≡ 0 → 768 ≤ r .task → r .task < 2050 → tab (r .task) ≡ 1 → Hand k m used sheet due r (record { agenda = []; sheet = sheet } ∷ due)
+    -- the agenda in hand
+    agenda : {ts : List Task} → r .state ≡ 2 → Agenda m (r .at) (r .end) (r .link) ts → Fine b k (record { agenda = ts; sheet = sheet })
+        → Hand k m used sheet due r (record { agenda = ts; sheet = sheet } ∷ due)
+    -- nothing
+    failed : r .state ≡ 5 → Hand k m used sheet due r due
+    -- ways to be taken, and a list to be entered
+    way : {ts : List Task} {ls : List Lit} {lss : List (List Lit)} → r .state ≡ 4 → Chain s tab (r .task) (ls ∷ lss)
+        → Free m used (r .at) (r .end) (r .link) ts (ls ∷ lss) → Every (Fine b (suc k)) (byWays ts sheet (ls ∷ lss))
+        → Hand k m used sheet due r (byWays ts sheet (ls ∷ lss) ++ due)
+    list : {ts : List Task} {ls : List Lit} → r .state ≡ 3 → Listed s tab (r .task) ls → Free m used (r .at) (r .end) (r .link) ts (ls ∷ [])
+        → Fine b k (record { agenda = map want ls ++ ts; sheet = sheet })
+        → Hand k m used sheet due r (record { agenda = map want ls ++ ts; sheet = sheet } ∷ due)
 
 -- The machine stands for these nodes due.
-pub record Holds (s : List ℕ) (ab : ℕ) (b : Book) (w : List ℕ) (r : Run) (all : List Node) : Type 0 where
+pub record Holds (s : List ℕ) (b : Book) (w : List ℕ) (r : Run) (all : List Node) : Type 0 where
   pub tab : ℕ → ℕ
-  pub ags : List (List Task)
+  pub height : ℕ
+  pub marks : ℕ
+  pub used : ℕ
   pub sheet : List Lit
   pub due : List Node
-  pub ground : Ground s ab b tab
+  pub ground : Ground s b tab
   pub area : Area tab w sheet
-  pub held : Held s b tab w (r .top) ags sheet due
+  pub trail : Trail w marks sheet
+  pub held : Held s b tab w height marks used sheet due
   pub chosen : r .set ≡ assumed b sheet
-  pub low : r .top ≤ 899
-  pub hand : Hand s b tab ags sheet due r all
+  pub marked : r .marked ≡ 7560 + 4 * marks
+  pub top : r .top ≡ 8584 + 7 * height
+  pub hand : Hand s b tab w height marks used sheet due r all

@@ -1,137 +1,89 @@
--- The laws of the work area: what stays where a frame or a number is written, and where a link leads.
+-- The laws of the work area: what stays where its numbers stay, and how many marks there are.
 -- Assumes nothing.
-use Prim.Native.Nat.{ℕ, suc, _+_, _-_, _*_, _≤_, _<_}
+use Prim.Native.Nat.{ℕ, _+_, _*_, _≤_, _<_}
 use native.Mathlib.Omega.{arith}
-use mathlib.Core.Path.{_≡_, refl, sym, ap, subst, _∙_}
-use mathlib.Core.List.{List, [], _∷_, _++_}
-use lib.ListN.{length, getD, set, drop, take, List·getD-append, length-append}
-use lib.Seq.{drop-set-lt, sets, sets-eq, length-sets, getD-append-add, getD-set-other, length-take-le}
+use native.Mathlib.Nat.{le-refl}
+use mathlib.Core.Path.{_≡_, sym, ap₂, subst, subst₂, _∙_}
+use mathlib.Core.List.{List}
+use lib.ListN.{set}
+use lib.Seq.{getD-set-other}
 use Rattle.book.specs.Book.{Lit, Book}
 use Rattle.searching.specs.Rules.{Task, Node}
-use Rattle.lister.specs.declared.frames.Cell.{Cell}
-use Rattle.lister.specs.Machine.{word, cellAt, framed, Same, Chain, Tail, newest, under, Agenda, done, more, Ways, Held, bottom, wanting, picking}
-
-pub sets-below : (vs w : List ℕ) (i j : ℕ) → j < i → getD (sets w i vs) j 0 ≡ getD w j 0
-sets-below [] w i j h = refl
-sets-below (a ∷ vs) w i j h = sets-below vs (set w i a) (suc i) j (omega arith) ∙ getD-set-other w i j a 0 (λ e. omega (arith, e))
-
-pub sets-word : (vs w : List ℕ) (i n : ℕ) → i + length vs ≤ length w → n < length vs → getD (sets w i vs) (i + n) 0 ≡ getD vs n 0
-sets-word vs w i n h q =
-    let front : length (take i w) ≡ i = length-take-le i w (omega arith) in
-    ap (λ (l : List ℕ). getD l (i + n) 0) (sets-eq vs w i h)
-    ∙ List·getD-append (take i w ++ vs) (drop (i + length vs) w) 0 (i + n) (omega (arith, length-append (take i w) vs))
-    ∙ ap (λ (m : ℕ). getD (take i w ++ vs) (m + n) 0) (sym front)
-    ∙ getD-append-add (take i w) vs n 0
-
-module _ (w : List ℕ) (k : ℕ) (c : Cell) (undo cursor turn stop : ℕ) where
-  pub framed-length : length (framed w k c undo cursor turn stop) ≡ length w
-  unfolding framed
-  framed-length = length-sets w (1672 + 8 * k) (c .kind ∷ c .from ∷ c .to ∷ c .link ∷ undo ∷ cursor ∷ turn ∷ stop ∷ [])
-
-  pub framed-below : Same w (framed w k c undo cursor turn stop) 0 (1672 + 8 * k)
-  unfolding framed
-  framed-below j p q = sets-below (c .kind ∷ c .from ∷ c .to ∷ c .link ∷ undo ∷ cursor ∷ turn ∷ stop ∷ []) w (1672 + 8 * k) j q
-
-  pub framed-word : (n : ℕ) → 1672 + 8 * k + 8 ≤ length w → n < 8
-      → word (framed w k c undo cursor turn stop) k n ≡ getD (c .kind ∷ c .from ∷ c .to ∷ c .link ∷ undo ∷ cursor ∷ turn ∷ stop ∷ []) n 0
-  unfolding framed
-  framed-word n h q = sets-word (c .kind ∷ c .from ∷ c .to ∷ c .link ∷ undo ∷ cursor ∷ turn ∷ stop ∷ []) w (1672 + 8 * k) n h q
-
-  pub framed-cell : 1672 + 8 * k + 8 ≤ length w → cellAt (framed w k c undo cursor turn stop) k ≡ c
-  framed-cell h = λ i. record {
-    kind = framed-word 0 h (omega arith) i;
-    from = framed-word 1 h (omega arith) i;
-    to = framed-word 2 h (omega arith) i;
-    link = framed-word 3 h (omega arith) i;
-  }
+use Rattle.lister.specs.Machine.{Same, Chain, Trail, none, marks, entry, frame, Own, Tail, rules, laid, Agenda, linked, more, Free, older, short, empty, Frame, Held, bottom, under, proving, picking}
 
 -- the same numbers where one number is written elsewhere
 pub set-same : (w : List ℕ) (i a lo hi : ℕ) → ((j : ℕ) → lo ≤ j → j < hi → j ≡ i → ⊥) → Same w (set w i a) lo hi
 set-same w i a lo hi h j p q = getD-set-other w i j a 0 (h j p q)
 
-pub same-cell : (w v : List ℕ) (k : ℕ) → Same w v (1672 + 8 * k) (1672 + 8 * k + 4) → cellAt w k ≡ cellAt v k
-same-cell w v k f = λ i. record {
-  kind = sym (f (1672 + 8 * k + 0) (omega arith) (omega arith)) i;
-  from = sym (f (1672 + 8 * k + 1) (omega arith) (omega arith)) i;
-  to = sym (f (1672 + 8 * k + 2) (omega arith) (omega arith)) i;
-  link = sym (f (1672 + 8 * k + 3) (omega arith) (omega arith)) i;
-}
+pub trail-same : {w v : List ℕ} {m : ℕ} {sheet : List Lit} → ((j : ℕ) → j < m → entry v j 3 ≡ entry w j 3) → Trail w m sheet → Trail v m sheet
+trail-same f none = none
+trail-same f (marks {m} y e h p q t) = marks y (f m (omega arith) ∙ e) h p q (trail-same (λ j i. f j (omega arith)) t)
 
 module _ (s : List ℕ) (b : Book) (tab : ℕ → ℕ) where
-  pub same-ways : {a a′ c c′ d d′ : ℕ} {ways : List (List Lit)} → a ≡ a′ → c ≡ c′ → d ≡ d′ → Ways s b tab a c d ways → Ways s b tab a′ c′ d′ ways
-  same-ways {a} {a′} {c} {c′} {d} {d′} {ways} p q r h =
-      subst (λ (x : ℕ). Ways s b tab x c′ d′ ways) p (subst (λ (x : ℕ). Ways s b tab a x d′ ways) q (subst (λ (x : ℕ). Ways s b tab a c x ways) r h))
+  -- ---- more entries
 
-  -- frames stay where their numbers stay
-  pub held-same : {w v : List ℕ} {k : ℕ} {ags : List (List Task)} {sheet : List Lit} {due : List Node}
-      → Same w v 1672 (1672 + 8 * k) → Held s b tab w k ags sheet due → Held s b tab v k ags sheet due
-  held-same f bottom = bottom
-  held-same {w} {v} f (wanting {k} {ags} {sheet} {due} {rest} {ks} y a u n p q c e h) =
-      let w4 : word v k 4 ≡ word w k 4 = f (1672 + 8 * k + 4) (omega arith) (omega arith) in
-      let w5 : word v k 5 ≡ word w k 5 = f (1672 + 8 * k + 5) (omega arith) (omega arith) in
-      wanting y
-      (subst (λ (x : Cell). Agenda s b tab ags x rest) (same-cell w v k (λ j g i. f j (omega arith) (omega arith))) a)
-      (w4 ∙ u) n p q
-      (subst (λ (x : ℕ). Chain b tab x ks) (sym w5) c)
-      e
-      (held-same (λ j g i. f j g (omega arith)) h)
-  held-same {w} {v} f (picking {k} {ags} {sheet} {due} {rest} {ways} a u c e h) =
-      let w4 : word v k 4 ≡ word w k 4 = f (1672 + 8 * k + 4) (omega arith) (omega arith) in
-      let w5 : word v k 5 ≡ word w k 5 = f (1672 + 8 * k + 5) (omega arith) (omega arith) in
-      let w6 : word v k 6 ≡ word w k 6 = f (1672 + 8 * k + 6) (omega arith) (omega arith) in
-      let w7 : word v k 7 ≡ word w k 7 = f (1672 + 8 * k + 7) (omega arith) (omega arith) in
-      picking
-      (subst (λ (x : Cell). Agenda s b tab ags x rest) (same-cell w v k (λ j g i. f j (omega arith) (omega arith))) a)
-      (w4 ∙ u)
-      (same-ways (sym w5) (sym w6) (sym w7) c)
-      e
-      (held-same (λ j g i. f j g (omega arith)) h)
+  pub tail-more : {w : List ℕ} {m n l : ℕ} {us : List Task} → m ≤ n → Tail s b tab w m l us → Tail s b tab w n l us
+  tail-more h (rules k q) = rules k q
+  tail-more {n = n} h (laid j q o t) = let less : j < n = omega arith in laid j less o t
 
-  pub held-length : {w : List ℕ} {k : ℕ} {ags : List (List Task)} {sheet : List Lit} {due : List Node}
-      → Held s b tab w k ags sheet due → length ags ≡ k
-  held-length bottom = refl
-  held-length (wanting y a u n p q c e h) = ap suc (held-length h)
-  held-length (picking a u c e h) = ap suc (held-length h)
+  pub agenda-more : {w : List ℕ} {m n at end link : ℕ} {ts : List Task} → m ≤ n → Agenda s b tab w m at end link ts → Agenda s b tab w n at end link ts
+  agenda-more h (linked e i t) = linked e i (tail-more h t)
+  agenda-more h (more o t) = more o (tail-more h t)
 
-  -- an agenda stays where a frame is put on top
-  pub raise : {c : Cell} {ags : List (List Task)} {ts us : List Task} → Agenda s b tab ags c ts → Agenda s b tab (us ∷ ags) c ts
-  raise (done e) = done e
-  raise (more o t) = more o (under t)
+  -- ---- the same numbers
 
-  -- a link leads to the agenda of its frame's cell
-  pub record Linked (w : List ℕ) (k : ℕ) (ags : List (List Task)) (a : ℕ) (us : List Task) : Type 0 where
-    pub some : 1 ≤ a
-    pub most : a ≤ k
-    pub cell : Agenda s b tab ags (cellAt w (a - 1)) us
+  pub tail-same : {w v : List ℕ} {m l : ℕ} {us : List Task} → Same w v 7560 (7560 + 4 * m) → Tail s b tab w m l us → Tail s b tab v m l us
+  tail-same f (rules k q) = rules k q
+  tail-same {w} {v} f (laid {ts = ts} {us} j q o t) =
+      let e0 : entry v j 0 ≡ entry w j 0 = f (7560 + 4 * j + 0) (omega arith) (omega arith) in
+      let e1 : entry v j 1 ≡ entry w j 1 = f (7560 + 4 * j + 1) (omega arith) (omega arith) in
+      let e2 : entry v j 2 ≡ entry w j 2 = f (7560 + 4 * j + 2) (omega arith) (omega arith) in
+      laid j q (subst₂ (λ (a c : ℕ). Own s tab a c ts) (sym e0) (sym e1) o)
+      (subst (λ (n : ℕ). Tail s b tab v j n us) (sym e2) (tail-same (λ i g h. f i g (omega arith)) t))
 
-  linked-top : {w : List ℕ} {k : ℕ} {ags : List (List Task)} {us : List Task} → length ags ≡ k → Agenda s b tab ags (cellAt w k) us
-      → Linked w (suc k) (us ∷ ags) (suc (length ags)) us
-  linked-top {w} {k} {ags} {us} e a =
-      record { some = omega arith; most = omega arith; cell = subst (λ (n : ℕ). Agenda s b tab (us ∷ ags) (cellAt w n) us) (omega arith) (raise a) }
+  pub agenda-same : {w v : List ℕ} {m at end link : ℕ} {ts : List Task} → Same w v 7560 (7560 + 4 * m) → Agenda s b tab w m at end link ts
+      → Agenda s b tab v m at end link ts
+  agenda-same f (linked e i t) = linked e i (tail-same f t)
+  agenda-same f (more o t) = more o (tail-same f t)
 
-  linked-under : {w : List ℕ} {k a : ℕ} {ags : List (List Task)} {us vs : List Task} → Linked w k ags a us → Linked w (suc k) (vs ∷ ags) a us
-  linked-under l = record { some = l .some; most = omega (arith, l .most); cell = raise (l .cell) }
+  pub held-used : {w : List ℕ} {k m used : ℕ} {sheet : List Lit} {due : List Node} → Held s b tab w k m used sheet due → used ≤ m
+  held-used bottom = omega arith
+  held-used (under h) = omega (arith, held-used h)
+  held-used (proving f a e u h) = omega arith
+  held-used (picking f a e h) = omega arith
 
-  pub follow : {w : List ℕ} {k a : ℕ} {ags : List (List Task)} {sheet : List Lit} {due : List Node} {us : List Task}
-      → Held s b tab w k ags sheet due → Tail ags a us → Linked w k ags a us
-  follow (wanting y ag u n p q c e h) newest = linked-top (held-length h) ag
-  follow (wanting y ag u n p q c e h) (under t) = linked-under (follow h t)
-  follow (picking ag u c e h) newest = linked-top (held-length h) ag
-  follow (picking ag u c e h) (under t) = linked-under (follow h t)
+  free-same : {w v : List ℕ} {m used at end link : ℕ} {ts : List Task} {lss : List (List Lit)} → m ≤ used → Same w v 7560 (7560 + 4 * m)
+      → Free s b tab w m used at end link ts lss → Free s b tab v m m at end link ts lss
+  free-same u f (older h a) = absurd (omega arith)
+  free-same u f (short a h) = short (agenda-same f a) h
+  free-same u f (empty e i t) = empty e i (tail-same f t)
 
--- what lies behind the search's own numbers stays
-pub sets-later : (vs w : List ℕ) (i n : ℕ) → i + length vs ≤ n → drop n (sets w i vs) ≡ drop n w
-sets-later [] w i n h = refl
-sets-later (a ∷ vs) w i n h = sets-later vs (set w i a) (suc i) n (omega arith) ∙ drop-set-lt n w i a (omega arith)
+  frame-same : {w v : List ℕ} {k m : ℕ} {sheet : List Lit} {lss : List (List Lit)} → ((i : ℕ) → i < 7 → frame v k i ≡ frame w k i)
+      → Frame s b tab w k m sheet lss → Frame s b tab v k m sheet lss
+  frame-same {w} {v} {k} {m} {sheet} {lss} f h = record {
+    marked = f 0 (omega arith) ∙ h .marked;
+    set = ap₂ (λ (x y : ℕ). x + 4294967296 * y) (f 1 (omega arith)) (f 2 (omega arith)) ∙ h .set;
+    ways = subst (λ (n : ℕ). Chain s tab n lss) (sym (f 6 (omega arith))) (h .ways);
+  }
 
-pub framed-later : (w : List ℕ) (k : ℕ) (c : Cell) (undo cursor turn stop : ℕ) → k ≤ 898 → drop 16384 (framed w k c undo cursor turn stop) ≡ drop 16384 w
-unfolding framed
-framed-later w k c undo cursor turn stop h =
-    sets-later (c .kind ∷ c .from ∷ c .to ∷ c .link ∷ undo ∷ cursor ∷ turn ∷ stop ∷ []) w (1672 + 8 * k) 16384 (omega arith)
+  pub agenda-at : {v : List ℕ} {m a a′ c c′ l l′ : ℕ} {ts : List Task} → a′ ≡ a → c′ ≡ c → l′ ≡ l → Agenda s b tab v m a c l ts → Agenda s b tab v m a′ c′ l′ ts
+  agenda-at p q r h = rw (p, q, r) h
 
--- numbers written one after the other
-pub eight : (w : List ℕ) (i i₁ i₂ i₃ i₄ i₅ i₆ i₇ a b c d e f g h : ℕ)
-    → i₁ ≡ suc i → i₂ ≡ suc (suc i) → i₃ ≡ suc (suc (suc i)) → i₄ ≡ suc (suc (suc (suc i))) → i₅ ≡ suc (suc (suc (suc (suc i))))
-    → i₆ ≡ suc (suc (suc (suc (suc (suc i))))) → i₇ ≡ suc (suc (suc (suc (suc (suc (suc i))))))
-    → set (set (set (set (set (set (set (set w i a) i₁ b) i₂ c) i₃ d) i₄ e) i₅ f) i₆ g) i₇ h ≡ sets w i (a ∷ b ∷ c ∷ d ∷ e ∷ f ∷ g ∷ h ∷ [])
-eight w i i₁ i₂ i₃ i₄ i₅ i₆ i₇ a b c d e f g h p₁ p₂ p₃ p₄ p₅ p₆ p₇ = rw (p₁, p₂, p₃, p₄, p₅, p₆, p₇)
+  pub free-at : {v : List ℕ} {m used a a′ c c′ l l′ : ℕ} {ts : List Task} {lss : List (List Lit)} → a′ ≡ a → c′ ≡ c → l′ ≡ l
+      → Free s b tab v m used a c l ts lss → Free s b tab v m used a′ c′ l′ ts lss
+  free-at p q r h = rw (p, q, r) h
+
+  -- frames stay where their numbers stay, and the entries that they use
+  pub held-same : {w v : List ℕ} {k m used : ℕ} {sheet : List Lit} {due : List Node} → Same w v 8584 (8584 + 7 * k) → Same w v 7560 (7560 + 4 * used)
+      → Held s b tab w k m used sheet due → Held s b tab v k m used sheet due
+  held-same f g bottom = bottom
+  held-same f g (under h) = under (held-same f g h)
+  held-same {w} {v} f g (proving {k} {m} fr a e u h) =
+      let n : (i : ℕ) → i < 7 → frame v k i ≡ frame w k i = λ i q. f (8584 + 7 * k + i) (omega arith) (omega arith) in
+      proving (frame-same n fr) (agenda-at (n 3 (omega arith)) (n 4 (omega arith)) (n 5 (omega arith)) (agenda-same g a)) e u
+      (held-same (λ j p q. f j p (omega arith)) (λ j p q. g j p (omega arith)) h)
+  held-same {w} {v} f g (picking {k} {m} {used} fr a e h) =
+      let n : (i : ℕ) → i < 7 → frame v k i ≡ frame w k i = λ i q. f (8584 + 7 * k + i) (omega arith) (omega arith) in
+      let u : used ≤ m = held-used h in
+      picking (frame-same n fr) (free-at (n 3 (omega arith)) (n 4 (omega arith)) (n 5 (omega arith)) (free-same (le-refl m) g a)) e
+      (held-same (λ j p q. f j p (omega arith)) (λ j p q. g j p (omega arith)) h)

@@ -1,7 +1,7 @@
 -- The search as a whole: each step keeps the one equation, that the rules' search from the root ends as it does from here; and the last
 -- step's answer is the rules'.
 -- Assumes nothing.
-use Prim.Native.Nat.{ℕ, zero, suc, _+_, _-_, _*_, _≤_, _<_}
+use Prim.Native.Nat.{ℕ, zero, suc, _+_, _-_, _≤_, _<_}
 use native.Mathlib.Omega.{arith}
 use mathlib.Core.Path.{_≡_, refl, sym, ap, ap₂, subst, _∙_}
 use mathlib.Core.List.{List, [], _∷_, _++_}
@@ -9,15 +9,16 @@ use lib.ListN.{length, take, length-take}
 use borrow.Author.Tests.{lt-ltb, le-ltb}
 use Rattle.base.specs.Bools.{choose-true, choose-false}
 use Rattle.book.specs.Book.{Lit, Book}
-use Rattle.base.specs.Parts.{length-lay, take-lay}
-use Rattle.sets.specs.Kept.{insert, Laid}
-use Rattle.searching.specs.Rules.{Task, Node, root, children, after, noting, assumed, finished, used-up, no-room, run, run-from}
-use Rattle.lister.specs.declared.walk.Run.{Run}
-use Rattle.lister.specs.Machine.{Hand, idle, ready, Holds}
-use Rattle.lister.specs.Tasks.{first-none}
-use Rattle.lister.specs.Moves.{inHand, Visiting, visiting, some-task}
-use Rattle.lister.specs.Back.{nothing-due}
-use Rattle.lister.specs.Steps.{Ready, Waiting, Visited, Advanced, Searching, Stopped, all-visited, out-of-budget, out-of-room, State, goes-on, ended, Stepped, counting, stopped, recounted, Noted, inserted, full}
+use Rattle.sets.specs.Kept.{insert}
+use Rattle.book.specs.Decode.{litOf}
+use Rattle.searching.specs.Rules.{Task, want, pick, Node, root, children, after, assumed, finished, no-room, run, run-from}
+use Rattle.searching.specs.Rules
+use Rattle.lister.specs.declared.moves.Run.{Run}
+use Rattle.lister.specs.Machine.{Hand, literal, record-at, last, agenda, failed, way, list, Holds}
+use Rattle.lister.specs.Pieces.{turning, counting, noting}
+use Rattle.lister.specs.Node.{counting-holds}
+use Rattle.lister.specs.Steps.{Standing, Moved, Stands, Moves, Backed, back-to, over, Visited, Tasked, Success, Noted, inserted, full, Went, visits, Searching, Ending, all-visited, out-of-budget, out-of-room, State, goes-on, ended, Somewhere, Passes, Stepped, ahead, Stopped}
+use Rattle.lister.specs.Steps
 
 -- ---- the rules' search, one node at a time
 
@@ -26,307 +27,321 @@ unfolding run
 run-none b room zero kept n = refl
 run-none b room (suc k) kept n = refl
 
-run-short : (b : Book) (room : ℕ) (x : Node) (later : List Node) (kept : List ℕ) (n : ℕ) → run b room 0 (x ∷ later) kept n ≡ used-up n
+run-short : (b : Book) (room : ℕ) (x : Node) (later : List Node) (kept : List ℕ) (n : ℕ) → run b room 0 (x ∷ later) kept n ≡ Rules.used-up n
 unfolding run
 run-short b room x later kept n = refl
 
 -- a node with a task
 run-task : (b : Book) (room k : ℕ) (t : Task) (ts : List Task) (sheet : List Lit) (later : List Node) (kept : List ℕ) (n : ℕ) → length kept ≤ room
     → run b room (suc k) (record { agenda = t ∷ ts; sheet = sheet } ∷ later) kept n ≡ run b room k (children b (record { agenda = t ∷ ts; sheet = sheet }) ++ later) kept (suc n)
-unfolding run noting
+unfolding run Rules.noting
 run-task b room k t ts sheet later kept n h = choose-false _ _ (le-ltb room (length kept) h)
 
 -- a success
 run-room : (b : Book) (room k : ℕ) (sheet : List Lit) (later : List Node) (kept : List ℕ) (n : ℕ) → length (insert kept (assumed b sheet)) ≤ room
     → run b room (suc k) (record { agenda = []; sheet = sheet } ∷ later) kept n ≡ run b room k later (insert kept (assumed b sheet)) (suc n)
-unfolding run noting after
+unfolding run Rules.noting after
 run-room b room k sheet later kept n h = choose-false _ _ (le-ltb room (length (insert kept (assumed b sheet))) h)
 
 run-full : (b : Book) (room k : ℕ) (sheet : List Lit) (later : List Node) (kept : List ℕ) (n : ℕ) → room < length (insert kept (assumed b sheet))
     → run b room (suc k) (record { agenda = []; sheet = sheet } ∷ later) kept n ≡ no-room (suc n)
-unfolding run noting after
+unfolding run Rules.noting after
 run-full b room k sheet later kept n h = choose-true _ _ (lt-ltb room (length (insert kept (assumed b sheet))) h)
 
--- ---- runs that stand for the same
+-- ---- from a state to the next
 
--- the machine does not look at the counts
-pub holds-run : (s : List ℕ) (ab : ℕ) (b : Book) (w : List ℕ) (r q : Run) (all : List Node) → q .due ≡ r .due → inHand q ≡ inHand r → q .top ≡ r .top → q .set ≡ r .set
-    → Holds s ab b w r all → Holds s ab b w q all
-holds-run s ab b w r q all d i t c h = record {
-  tab = h .tab;
-  ags = h .ags;
-  sheet = h .sheet;
-  due = h .due;
-  ground = h .ground;
-  area = h .area;
-  held = rw t (h .held);
-  chosen = c ∙ h .chosen;
-  low = omega (arith, t, h .low);
-  hand = go (h .hand);
+-- the machine is at work in state 0, 2, 3, 4 or 5
+working : (s : List ℕ) (b : Book) (w : List ℕ) (r : Run) (all : List Node) → Holds s b w r all → r .state ≡ 1 → ⊥
+working s b w r all h e = go (h .hand)
+  where
+    go : {xs : List Node} → Hand s b (h .tab) w (h .height) (h .marks) (h .used) (h .sheet) (h .due) r xs → ⊥
+    go (literal i l a f) = omega (arith, i, e)
+    go (record-at i p q c a f) = omega (arith, i, e)
+    go (last i p q c) = omega (arith, i, e)
+    go (agenda i a f) = omega (arith, i, e)
+    go (failed i) = omega (arith, i, e)
+    go (way i c a f) = omega (arith, i, e)
+    go (list i l a f) = omega (arith, i, e)
+
+not-ended : (b : Book) (budget : ℕ) (sets : List ℕ) (r : Run) (n : ℕ) → Ending b budget sets r → r .state ≡ n → 2 ≤ n → n ≤ 5 → ⊥
+not-ended b budget sets r n (all-visited e c a) i l h = omega (arith, e, i)
+not-ended b budget sets r n (out-of-budget e a) i l h = omega (arith, e, i)
+not-ended b budget sets r n (out-of-room e a) i l h = omega (arith, e, i)
+
+-- a move keeps the equation
+moved-on : (s : List ℕ) (budget : ℕ) (sets w : List ℕ) (r : Run) (v : List ℕ) (q : Run) (n : ℕ) → Moved s w r v q n → Searching s budget sets w r → Searching s budget sets v q
+moved-on s budget sets w r v q n m h = record {
+  b = h .b;
+  all = h .all;
+  holds = m .holds (h .b) (h .all) (h .holds);
+  nodes = omega (arith, m .nodes, h .nodes);
+  count = omega (arith, m .count, h .count);
+  entries = h .entries;
+  answer =
+      h .answer
+      ∙ ap₂ (λ (n c : ℕ). run (h .b) (length sets) (budget - n) (h .all) (take c sets) n) (sym (m .nodes)) (sym (m .count));
+}
+
+-- the state that a piece asks for
+pub somewhere-stands : (w : List ℕ) (r : Run) (n : ℕ) → 2 ≤ n → n ≤ 5 → Somewhere w r n → r .state ≡ n → Stands w r n
+somewhere-stands w r n l h p e = go (p .state)
+  where
+    go : State (p .s) (p .budget) (p .sets) w r n (p .low) → Stands w r n
+    go (goes-on x i k) = (p .s, record { b = x .b; all = x .all; holds = x .holds; state = e })
+    go (ended b i x k) = absurd (not-ended b (p .budget) (p .sets) r n x e l h)
+
+pub passes-moved : (w : List ℕ) (r : Run) (m : ℕ) (v : List ℕ) (q : Run) (n : ℕ) → 2 ≤ m → m ≤ 5 → r .state ≡ m → Moves w r v q n → Passes w r m v q n
+passes-moved w r m v q n l h e f = record {
+  next = λ s budget sets low x. go s budget sets low x;
+  later = f [] .later;
 }
   where
-    go : {all : List Node} → Hand s b (h .tab) (h .ags) (h .sheet) (h .due) r all → Hand s b (h .tab) (h .ags) (h .sheet) (h .due) q all
-    go (idle e) = idle (d ∙ e)
-    go (ready {ts} e a f) = ready {ts = ts} (d ∙ e) (rw i a) (rw t f)
+    go : (s : List ℕ) (budget : ℕ) (sets : List ℕ) (low : ℕ) → State s budget sets w r m low → State s budget sets v q n low
+    go s budget sets low (goes-on x i k) = goes-on (moved-on s budget sets w r v q n (f s) x) (f s .state) (omega (arith, f s .nodes))
+    go s budget sets low (ended b i x k) = absurd (not-ended b budget sets r m x e l h)
 
--- a visit brings the search on by more than it can push
-falls-visit : (budget n m t u d e x y : ℕ) → n < budget → m ≡ n + 1 → u ≤ t + 1 → y ≡ x
-    → 3 * (budget - m) + u + (1 - e) + (1 - y) < 3 * (budget - n) + t + d + (1 - x)
-falls-visit budget n m t u d e x y p q h i =
-    let less : 3 * (budget - m) + 3 ≡ 3 * (budget - n) = omega arith in
-    let same : 1 - y ≡ 1 - x = ap (λ (z : ℕ). 1 - z) i in
-    let one : 1 - e ≤ 1 = omega arith in
-    sum (3 * (budget - m)) (3 * (budget - n)) u t (1 - e) d (1 - y) (1 - x) less h one same
+pub passes-same : (w : List ℕ) (r : Run) (m n : ℕ) → m ≡ suc n → (r .state ≡ m → ⊥) → Passes w r m w r n
+passes-same w r m n j e = record { next = λ s budget sets low x. go s budget sets low x; later = refl }
   where
-    sum : (a b u t e d y x : ℕ) → a + 3 ≡ b → u ≤ t + 1 → e ≤ 1 → y ≡ x → a + u + e + y < b + t + d + x
-    sum a b u t e d y x p q r i = omega arith
+    go : (s : List ℕ) (budget : ℕ) (sets : List ℕ) (low : ℕ) → State s budget sets w r m low → State s budget sets w r n low
+    go s budget sets low (goes-on x i k) = goes-on x (omega (arith, e)) k
+    go s budget sets low (ended b i x k) = ended b i x k
 
-module _ (s : List ℕ) (budget ab : ℕ) (sets w : List ℕ) (r : Run) (h : Searching s budget ab sets w r) where
-  -- ---- no node in hand
+-- a way more for `back`: nothing is left
+pub passes-backed : (w : List ℕ) (r : Run) (v : List ℕ) (q : Run) → r .state ≡ 5 → Backed w r v q → Passes w r 5 v q 4
+passes-backed w r v q e (back-to f) = record {
+  next = λ s budget sets low x. go s budget sets low x;
+  later = f [] .later;
+}
+  where
+    go : (s : List ℕ) (budget : ℕ) (sets : List ℕ) (low : ℕ) → State s budget sets w r 5 low → State s budget sets v q 4 low
+    go s budget sets low (goes-on x i k) = goes-on (moved-on s budget sets w r v q 3 (f s) x) (omega (arith, f s .state)) (omega (arith, f s .nodes))
+    go s budget sets low (ended b i x k) = absurd (not-ended b budget sets r 5 x e (omega arith) (omega arith))
+passes-backed w r v q e (over f j p) =
+    subst (λ (l : List ℕ). Passes w r 5 l q 4) (sym j)
+    (subst (λ (o : Run). Passes w r 5 w o 4) (sym p) (record { next = λ s budget sets low x. go s budget sets low x; later = refl }))
+  where
+    go : (s : List ℕ) (budget : ℕ) (sets : List ℕ) (low : ℕ) → State s budget sets w r 5 low → State s budget sets w (turning r 1) 4 low
+    go s budget sets low (goes-on x i k) =
+        let none : x .all ≡ [] = f s (x .b) (x .all) (x .holds) in
+        let o : run-from (x .b) (length sets) budget (root (x .b)) ≡ finished (take (r .count) sets) (r .nodes) =
+        x .answer ∙ ap (λ (l : List Node). run (x .b) (length sets) (budget - r .nodes) l (take (r .count) sets) (r .nodes)) none
+        ∙ run-none (x .b) (length sets) (budget - r .nodes) (take (r .count) sets) (r .nodes) in
+        ended (x .b) (x .holds .ground .book) (all-visited refl (x .count) o) (omega arith)
+    go s budget sets low (ended b i x k) = absurd (not-ended b budget sets r 5 x e (omega arith) (omega arith))
 
-  pub step-done : (q : Run) → r .due ≡ 0 → r .top ≡ 0 → q ≡ stopped r 1 → Stepped s budget ab sets w r sets w q
-  step-done q d t e =
-      let none : h .all ≡ [] = nothing-due s ab (h .b) w r (h .all) (h .holds) d t in
-      let o : run-from (h .b) (length sets) budget (root (h .b)) ≡ finished (take (r .count) sets) (r .nodes) =
-      h .answer ∙ ap (λ (l : List Node). run (h .b) (length sets) (budget - r .nodes) l (take (r .count) sets) (r .nodes)) none
-      ∙ run-none (h .b) (length sets) (budget - r .nodes) (take (r .count) sets) (r .nodes) in
-      subst (λ (p : Run). Stepped s budget ab sets w r sets w p) (sym e)
-      (record {
-        next = ended (h .b) (h .holds .ground .book) (all-visited refl (h .count) o);
-        falls = omega (arith, h .state);
-        later = refl;
-      })
+-- ---- a node
 
-  pub step-waiting : r .due ≡ 0 → (r .top ≡ 0 → ⊥) → Waiting s ab w r
-  step-waiting d t = record { b = h .b; all = h .all; holds = h .holds; due = d; some = positive (r .top) t }
-    where
-      positive : (n : ℕ) → (n ≡ 0 → ⊥) → 1 ≤ n
-      positive zero f = absurd (f refl)
-      positive (suc n) f = omega arith
-
-  pub step-back : (v : List ℕ) (q : Run) → r .due ≡ 0 → Advanced s ab w r v q → Stepped s budget ab sets w r sets v q
-  step-back v q d a = record {
-    next =
-        goes-on
-        (record {
-          b = h .b;
-          all = h .all;
-          holds = a .holds (h .b) (h .all) (h .holds);
-          state = a .state ∙ h .state;
-          due = a .due;
-          nodes = omega (arith, a .nodes, h .nodes);
-          count = omega (arith, a .count, h .count);
-          entries = h .entries;
-          answer =
-              h .answer
-              ∙ ap₂ (λ (n c : ℕ). run (h .b) (length sets) (budget - n) (h .all) (take c sets) n) (sym (a .nodes)) (sym (a .count));
-        });
-    falls = omega (arith, a .falls, a .nodes, a .state, a .due);
-    later = a .later;
-  }
-
-  -- ---- a node in hand
-
-  in-hand : (r .due ≡ 0 → ⊥) → r .due ≡ 1
-  in-hand d = omega (arith, d, h .due)
-
-  -- what is due begins with it
+module _ (s : List ℕ) (budget : ℕ) (sets w : List ℕ) (r : Run) (h : Searching s budget sets w r) (st : r .state ≡ 0) where
+  -- what is due begins with the node in hand
   record Due : Type 0 where
     x : Node
-    later : List Node
-    is : h .all ≡ x ∷ later
+    rest : List Node
+    is : h .all ≡ x ∷ rest
 
-  due-node : (r .due ≡ 0 → ⊥) → Due
-  due-node d = go (h .holds .hand) refl
+  due-node : Due
+  due-node = go (h .holds .hand) refl
     where
-      go : {all : List Node} → Hand s (h .b) (h .holds .tab) (h .holds .ags) (h .holds .sheet) (h .holds .due) r all → h .all ≡ all → Due
-      go (idle e) i = absurd (d e)
-      go (ready {ts} e a f) i = record { x = record { agenda = ts; sheet = h .holds .sheet }; later = h .holds .due; is = i }
+      go : {xs : List Node} → Hand s (h .b) (h .holds .tab) w (h .holds .height) (h .holds .marks) (h .holds .used) (h .holds .sheet) (h .holds .due) r xs → h .all ≡ xs → Due
+      go (literal {ts} e l a f) i = record { x = record { agenda = want (litOf (r .task)) ∷ ts; sheet = h .holds .sheet }; rest = h .holds .due; is = i }
+      go (record-at {lss} {ts} e p q c a f) i = record { x = record { agenda = pick lss ∷ ts; sheet = h .holds .sheet }; rest = h .holds .due; is = i }
+      go (last e p q c) i = record { x = record { agenda = []; sheet = h .holds .sheet }; rest = h .holds .due; is = i }
+      go (agenda e a f) i = absurd (omega (arith, e, st))
+      go (failed e) i = absurd (omega (arith, e, st))
+      go (way e c a f) i = absurd (omega (arith, e, st))
+      go (list e l a f) i = absurd (omega (arith, e, st))
 
-  pub step-short : (q : Run) → (r .due ≡ 0 → ⊥) → r .nodes ≡ budget → q ≡ stopped r 30 → Stepped s budget ab sets w r sets w q
-  step-short q d n e =
-      let u = due-node d in
+  at-node : Holds s (h .b) w r (due-node .x ∷ due-node .rest)
+  at-node = subst (Holds s (h .b) w r) (due-node .is) (h .holds)
+
+  at-counted : Holds s (h .b) w (counting r) (due-node .x ∷ due-node .rest)
+  at-counted = counting-holds s (h .b) w r (due-node .x ∷ due-node .rest) at-node
+
+  pub searching-tasked : Tasked w r
+  searching-tasked = record { s = s; b = h .b; x = due-node .x; rest = due-node .rest; holds = at-node; state = st }
+
+  before : (r .nodes ≡ budget → ⊥) → r .nodes < budget
+  before n = omega (arith, n, h .nodes)
+
+  -- the rules' search, with one node more to visit
+  start : (r .nodes ≡ budget → ⊥)
+      → run-from (h .b) (length sets) budget (root (h .b)) ≡ run (h .b) (length sets) (suc (budget - (r .nodes + 1))) (due-node .x ∷ due-node .rest) (take (r .count) sets) (r .nodes)
+  start n =
+      let left : budget - r .nodes ≡ suc (budget - (r .nodes + 1)) = omega (arith, before n) in
+      h .answer ∙ ap₂ (λ (k : ℕ) (l : List Node). run (h .b) (length sets) k l (take (r .count) sets) (r .nodes)) left (due-node .is)
+
+  one-more : suc (r .nodes) ≡ r .nodes + 1
+  one-more = omega arith
+
+  went-short : r .nodes ≡ budget → State s budget sets w (turning r 30) 5 (suc (r .nodes))
+  went-short n =
       let spent : budget - r .nodes ≡ 0 = omega (arith, n) in
-      let o : run-from (h .b) (length sets) budget (root (h .b)) ≡ used-up (r .nodes) =
-      h .answer ∙ ap₂ (λ (k : ℕ) (l : List Node). run (h .b) (length sets) k l (take (r .count) sets) (r .nodes)) spent (u .is)
-      ∙ run-short (h .b) (length sets) (u .x) (u .later) (take (r .count) sets) (r .nodes) in
-      subst (λ (p : Run). Stepped s budget ab sets w r sets w p) (sym e)
-      (record {
-        next = ended (h .b) (h .holds .ground .book) (out-of-budget refl o);
-        falls = omega (arith, h .state);
-        later = refl;
-      })
+      let o : run-from (h .b) (length sets) budget (root (h .b)) ≡ Rules.used-up (r .nodes) =
+      h .answer ∙ ap₂ (λ (k : ℕ) (l : List Node). run (h .b) (length sets) k l (take (r .count) sets) (r .nodes)) spent (due-node .is)
+      ∙ run-short (h .b) (length sets) (due-node .x) (due-node .rest) (take (r .count) sets) (r .nodes) in
+      ended (h .b) (h .holds .ground .book) (out-of-budget refl o) (omega arith)
 
-  counted-holds : Holds s ab (h .b) w (counting r) (h .all)
-  counted-holds = holds-run s ab (h .b) w r (counting r) (h .all) refl refl refl refl (h .holds)
+  run-some : (x : Node) (rest : List Node) (m : ℕ) (kept : List ℕ) (n : ℕ) → (x .agenda ≡ [] → ⊥) → length kept ≤ length sets
+      → run (h .b) (length sets) (suc m) (x ∷ rest) kept n ≡ run (h .b) (length sets) m (children (h .b) x ++ rest) kept (suc n)
+  run-some x rest m kept n f g = go (x .agenda) refl
+    where
+      go : (ts : List Task) → x .agenda ≡ ts → run (h .b) (length sets) (suc m) (x ∷ rest) kept n ≡ run (h .b) (length sets) m (children (h .b) x ++ rest) kept (suc n)
+      go [] e = absurd (f e)
+      go (t ∷ ts) e =
+          let is : x ≡ record { agenda = t ∷ ts; sheet = x .sheet } = ap (λ (l : List Task). record { agenda = l; sheet = x .sheet }) e in
+          subst (λ (y : Node). run (h .b) (length sets) (suc m) (y ∷ rest) kept n ≡ run (h .b) (length sets) m (children (h .b) y ++ rest) kept (suc n)) (sym is)
+          (run-task (h .b) (length sets) m t ts (x .sheet) rest kept n g)
 
-  pub step-ready : (q : Run) → (r .due ≡ 0 → ⊥) → q ≡ counting r → Ready s ab w q
-  step-ready q d e =
-      let u = due-node d in
-      subst (λ (p : Run). Ready s ab w p) (sym e)
+  went-task : (v : List ℕ) (q : Run) → (r .nodes ≡ budget → ⊥) → Visited w (counting r) v q → State s budget sets v q 5 (suc (r .nodes))
+  went-task v q n a =
+      let kept : length (take (r .count) sets) ≤ length sets = omega (arith, length-take (r .count) sets) in
+      let o : run-from (h .b) (length sets) budget (root (h .b)) ≡ run (h .b) (length sets) (budget - q .nodes) (children (h .b) (due-node .x) ++ due-node .rest) (take (q .count) sets) (q .nodes) =
+      start n
+      ∙ run-some (due-node .x) (due-node .rest) (budget - (r .nodes + 1)) (take (r .count) sets) (r .nodes) (a .some s (h .b) (due-node .x) (due-node .rest) at-counted) kept
+      ∙ same (children (h .b) (due-node .x) ++ due-node .rest) (q .nodes) (q .count) (omega (arith, a .nodes)) (omega (arith, a .nodes)) (sym (a .count)) in
+      goes-on
       (record {
         b = h .b;
-        x = u .x;
-        later = u .later;
-        holds = subst (λ (l : List Node). Holds s ab (h .b) w (counting r) l) (u .is) counted-holds;
-        due = in-hand d;
+        all = children (h .b) (due-node .x) ++ due-node .rest;
+        holds = a .holds s (h .b) (due-node .x) (due-node .rest) at-counted;
+        nodes = omega (arith, a .nodes, before n);
+        count = omega (arith, a .count, h .count);
+        entries = h .entries;
+        answer = o;
       })
-
-  before : r .nodes ≤ budget → (r .nodes ≡ budget → ⊥) → r .nodes < budget
-  before p q = omega (arith, p, q)
-
-  -- a task has been visited
-  pub step-visited : (c : Run) (v : List ℕ) (q : Run) → (r .due ≡ 0 → ⊥) → (r .nodes ≡ budget → ⊥) → 1 ≤ r .kind → c ≡ counting r → Visited s ab w c v q → Stepped s budget ab sets w r sets v q
-  step-visited c v q d n k e a = go (subst (λ (p : Run). Visited s ab w p v q) e a)
+      (a .state) (omega (arith, a .nodes))
     where
-      go : Visited s ab w (counting r) v q → Stepped s budget ab sets w r sets v q
-      go a =
-          let u = due-node d in
-          let less : r .nodes < budget = before (h .nodes) n in
-          let here = visiting s ab (h .b) w r (u .x) (u .later) (subst (λ (l : List Node). Holds s ab (h .b) w r l) (u .is) (h .holds)) (in-hand d) in
-          let left : budget - r .nodes ≡ suc (budget - (r .nodes + 1)) = omega arith in
-          let one-more : suc (r .nodes) ≡ q .nodes = omega (arith, a .nodes) in
-          let kept : length (take (r .count) sets) ≤ length sets = omega (arith, length-take (r .count) sets) in
-          let o : run-from (h .b) (length sets) budget (root (h .b)) ≡ run (h .b) (length sets) (budget - q .nodes) (children (h .b) (u .x) ++ u .later) (take (q .count) sets) (q .nodes) =
-          h .answer
-          ∙ ap₂ (λ (k : ℕ) (l : List Node). run (h .b) (length sets) k l (take (r .count) sets) (r .nodes)) left (u .is)
-          ∙ task here (budget - (r .nodes + 1)) (take (r .count) sets) (r .nodes) kept
-          ∙ same (children (h .b) (u .x) ++ u .later) (q .nodes) (q .count) (omega (arith, a .nodes)) one-more (sym (a .count)) in
-          record {
-            next =
-                goes-on
-                (record {
-                  b = h .b;
-                  all = children (h .b) (u .x) ++ u .later;
-                  holds = a .holds (h .b) (u .x) (u .later) (subst (λ (l : List Node). Holds s ab (h .b) w (counting r) l) (u .is) counted-holds);
-                  state = a .state ∙ h .state;
-                  due = a .due;
-                  nodes = omega (arith, a .nodes);
-                  count = omega (arith, a .count, h .count);
-                  entries = h .entries;
-                  answer = o;
-                });
-            falls = falls-visit budget (r .nodes) (q .nodes) (r .top) (q .top) (1 - r .due) (q .due) (r .state) (q .state) less (a .nodes) (a .height) (a .state);
-            later = a .later;
-          }
-        where
-          same : (l : List Node) (n c : ℕ) → budget - (r .nodes + 1) ≡ budget - n → suc (r .nodes) ≡ n → r .count ≡ c
-              → run (h .b) (length sets) (budget - (r .nodes + 1)) l (take (r .count) sets) (suc (r .nodes)) ≡ run (h .b) (length sets) (budget - n) l (take c sets) n
-          same l n c p q i = rw (p, q, i)
+      same : (l : List Node) (m c : ℕ) → budget - (r .nodes + 1) ≡ budget - m → suc (r .nodes) ≡ m → r .count ≡ c
+          → run (h .b) (length sets) (budget - (r .nodes + 1)) l (take (r .count) sets) (suc (r .nodes)) ≡ run (h .b) (length sets) (budget - m) l (take c sets) m
+      same l m c p q i = rw (p, q, i)
 
-          some : (ts : List Task) (x : Node) (later : List Node) (sheet : List Lit) (m : ℕ) (kept : List ℕ) (n : ℕ) → (ts ≡ [] → ⊥) → x ≡ record { agenda = ts; sheet = sheet } → length kept ≤ length sets
-              → run (h .b) (length sets) (suc m) (x ∷ later) kept n ≡ run (h .b) (length sets) m (children (h .b) x ++ later) kept (suc n)
-          some [] x later sheet m kept n f i g = absurd (f refl)
-          some (t ∷ ts) x later sheet m kept n f i g =
-              subst (λ (y : Node). run (h .b) (length sets) (suc m) (y ∷ later) kept n ≡ run (h .b) (length sets) m (children (h .b) y ++ later) kept (suc n)) (sym i)
-              (run-task (h .b) (length sets) m t ts sheet later kept n g)
-
-          task : {x : Node} {later : List Node} → Visiting s ab (h .b) w r x later → (m : ℕ) (kept : List ℕ) (n : ℕ) → length kept ≤ length sets
-              → run (h .b) (length sets) (suc m) (x ∷ later) kept n ≡ run (h .b) (length sets) m (children (h .b) x ++ later) kept (suc n)
-          task {x} {later} y m kept n g = some (y .tasks) x later (y .sheet) m kept n (λ i. has-task y i) (y .node) g
-            where
-              has-task : (y : Visiting s ab (h .b) w r x later) → y .tasks ≡ [] → ⊥
-              has-task y i = absurd (some-task s ab (h .b) w r x later y k i)
-
-  -- a success has been noted
-  pub step-noted : (c : Run) (after : List ℕ) (q : Run) → (r .due ≡ 0 → ⊥) → (r .nodes ≡ budget → ⊥) → r .kind ≡ 0 → c ≡ counting r → Noted sets c after q → Stepped s budget ab sets w r after w q
-  step-noted c after q d n k e a = go (subst (λ (p : Run). Noted sets p after q) e a)
+  went-success : (after : List ℕ) (q : Run) → (r .nodes ≡ budget → ⊥) → Success w (counting r) → Noted sets (counting r) after q → State s budget after w q 5 (suc (r .nodes))
+  went-success after q n a c = go c
     where
-      here : (u : Due) → Visiting s ab (h .b) w r (u .x) (u .later)
-      here u = visiting s ab (h .b) w r (u .x) (u .later) (subst (λ (l : List Node). Holds s ab (h .b) w r l) (u .is) (h .holds)) (in-hand d)
+      node : due-node .x ≡ record { agenda = []; sheet = due-node .x .sheet }
+      node = ap (λ (l : List Task). record { agenda = l; sheet = due-node .x .sheet }) (a .ends s (h .b) (due-node .x) (due-node .rest) at-counted)
 
-      success : (u : Due) → h .all ≡ record { agenda = []; sheet = here u .sheet } ∷ u .later
-      success u =
-          let v = here u in
-          u .is ∙ ap (λ (y : Node). y ∷ u .later) (v .node ∙ ap (λ (ts : List Task). record { agenda = ts; sheet = v .sheet }) (first-none s (h .b) (v .tab) (v .held) (inHand r) k (v .agenda)))
+      begin : run-from (h .b) (length sets) budget (root (h .b))
+          ≡ run (h .b) (length sets) (suc (budget - (r .nodes + 1))) (record { agenda = []; sheet = due-node .x .sheet } ∷ due-node .rest) (take (r .count) sets) (r .nodes)
+      begin = start n ∙ ap (λ (y : Node). run (h .b) (length sets) (suc (budget - (r .nodes + 1))) (y ∷ due-node .rest) (take (r .count) sets) (r .nodes)) node
 
-      start : (u : Due) → run-from (h .b) (length sets) budget (root (h .b)) ≡ run (h .b) (length sets) (suc (budget - (r .nodes + 1))) (record { agenda = []; sheet = here u .sheet } ∷ u .later) (take (r .count) sets) (r .nodes)
-      start u =
-          let left : budget - r .nodes ≡ suc (budget - (r .nodes + 1)) = omega (arith, before (h .nodes) n) in
-          h .answer ∙ ap₂ (λ (k : ℕ) (l : List Node). run (h .b) (length sets) k l (take (r .count) sets) (r .nodes)) left (success u)
+      chosen : insert (take (r .count) sets) (r .set) ≡ insert (take (r .count) sets) (assumed (h .b) (due-node .x .sheet))
+      chosen = ap (insert (take (r .count) sets)) (a .chosen s (h .b) (due-node .x) (due-node .rest) at-counted)
 
-      chosen : (u : Due) → insert (take (r .count) sets) (r .set) ≡ insert (take (r .count) sets) (assumed (h .b) (here u .sheet))
-      chosen u = ap (insert (take (r .count) sets)) (here u .chosen)
-
-      go : Noted sets (counting r) after q → Stepped s budget ab sets w r after w q
+      go : Noted sets (counting r) after q → State s budget after w q 5 (suc (r .nodes))
       go (full p l i) =
-          let u = due-node d in
           let o : run-from (h .b) (length sets) budget (root (h .b)) ≡ no-room (suc (r .nodes)) =
-          start u ∙ run-full (h .b) (length sets) (budget - (r .nodes + 1)) (here u .sheet) (u .later) (take (r .count) sets) (r .nodes) (subst (λ (z : List ℕ). length sets < length z) (chosen u) p) in
+          begin
+          ∙ run-full (h .b) (length sets) (budget - (r .nodes + 1)) (due-node .x .sheet) (due-node .rest) (take (r .count) sets) (r .nodes) (subst (λ (z : List ℕ). length sets < length z) chosen p) in
           let o′ : run-from (h .b) (length after) budget (root (h .b)) ≡ no-room (r .nodes + 1) =
-          ap (λ (m : ℕ). run-from (h .b) m budget (root (h .b))) l ∙ o ∙ ap no-room (omega arith) in
-          subst (λ (p : Run). Stepped s budget ab sets w r after w p) (sym i)
-          (record {
-            next = ended (h .b) (h .holds .ground .book) (out-of-room refl o′);
-            falls = omega (arith, h .state, before (h .nodes) n);
-            later = refl;
-          })
+          ap (λ (m : ℕ). run-from (h .b) m budget (root (h .b))) l ∙ o ∙ ap no-room one-more in
+          subst (λ (p : Run). State s budget after w p 5 (suc (r .nodes))) (sym i)
+          (ended (h .b) (h .holds .ground .book) (out-of-room refl o′) (omega arith))
       go (inserted m c p t l i) =
-          let u = due-node d in
-          let o : run-from (h .b) (length sets) budget (root (h .b)) ≡ run (h .b) (length sets) (budget - (r .nodes + 1)) (u .later) (insert (take (r .count) sets) (assumed (h .b) (here u .sheet))) (suc (r .nodes)) =
-          start u ∙ run-room (h .b) (length sets) (budget - (r .nodes + 1)) (here u .sheet) (u .later) (take (r .count) sets) (r .nodes) (omega (arith, c, ap length (chosen u))) in
-          let suc-nodes : suc (r .nodes) ≡ r .nodes + 1 = omega arith in
-          let o′ : run-from (h .b) (length after) budget (root (h .b)) ≡ run (h .b) (length after) (budget - (r .nodes + 1)) (u .later) (take m after) (r .nodes + 1) =
+          let o : run-from (h .b) (length sets) budget (root (h .b))
+          ≡ run (h .b) (length sets) (budget - (r .nodes + 1)) (due-node .rest) (insert (take (r .count) sets) (assumed (h .b) (due-node .x .sheet))) (suc (r .nodes)) =
+          begin
+          ∙ run-room (h .b) (length sets) (budget - (r .nodes + 1)) (due-node .x .sheet) (due-node .rest) (take (r .count) sets) (r .nodes) (omega (arith, c, p, ap length chosen)) in
+          let o′ : run-from (h .b) (length after) budget (root (h .b)) ≡ run (h .b) (length after) (budget - (r .nodes + 1)) (due-node .rest) (take m after) (r .nodes + 1) =
           ap (λ (z : ℕ). run-from (h .b) z budget (root (h .b))) l ∙ o
-          ∙ ap₂ (λ (z : List ℕ) (y : ℕ). run (h .b) (length sets) (budget - (r .nodes + 1)) (u .later) z y) (sym (t ∙ chosen u)) suc-nodes
-          ∙ ap (λ (z : ℕ). run (h .b) z (budget - (r .nodes + 1)) (u .later) (take m after) (r .nodes + 1)) (sym l) in
-          subst (λ (p : Run). Stepped s budget ab sets w r after w p) (sym i)
+          ∙ ap₂ (λ (z : List ℕ) (y : ℕ). run (h .b) (length sets) (budget - (r .nodes + 1)) (due-node .rest) z y) (sym (t ∙ chosen)) one-more
+          ∙ ap (λ (z : ℕ). run (h .b) z (budget - (r .nodes + 1)) (due-node .rest) (take m after) (r .nodes + 1)) (sym l) in
+          subst (λ (p : Run). State s budget after w p 5 (suc (r .nodes))) (sym i)
+          (goes-on
           (record {
-            next =
-                goes-on
-                (record {
-                  b = h .b;
-                  all = u .later;
-                  holds = rested-holds (here u) (recounted (counting r) m) refl refl refl;
-                  state = h .state;
-                  due = omega arith;
-                  nodes = omega (arith, before (h .nodes) n);
-                  count = omega (arith, p, l);
-                  entries = omega (arith, h .entries, l);
-                  answer = o′;
-                });
-            falls = omega (arith, h .state, before (h .nodes) n);
-            later = refl;
+            b = h .b;
+            all = due-node .rest;
+            holds = a .after s (h .b) (due-node .x) (due-node .rest) m at-counted;
+            nodes = omega (arith, before n);
+            count = omega (arith, p, l);
+            entries = omega (arith, h .entries, l);
+            answer = o′;
           })
-        where
-          rested-holds : {x : Node} {later : List Node} → Visiting s ab (h .b) w r x later → (q : Run) → q .due ≡ 0 → q .top ≡ r .top → q .set ≡ r .set → Holds s ab (h .b) w q later
-          rested-holds {x} {later} v q d t c = record {
-            tab = v .tab;
-            ags = v .ags;
-            sheet = v .sheet;
-            due = later;
-            ground = v .ground;
-            area = v .area;
-            held = rw t (v .held);
-            chosen = c ∙ v .chosen;
-            low = omega (arith, t, v .isFine .0);
-            hand = idle d;
-          }
+          (omega arith) (omega arith))
 
--- ---- the answer
+  pub stepped-visit : (after v : List ℕ) (q : Run) → Went budget sets w r after v q → Stepped s budget sets w r after v q 5
+  stepped-visit after v q (Went.used-up n i j e) =
+      subst (λ (l : List ℕ). Stepped s budget sets w r l v q 5) (sym i)
+      (subst (λ (l : List ℕ). Stepped s budget sets w r sets l q 5) (sym j)
+      (subst (λ (o : Run). Stepped s budget sets w r sets w o 5) (sym e) (record { next = went-short n; later = refl })))
+  stepped-visit after v q (visits n a i) =
+      subst (λ (l : List ℕ). Stepped s budget sets w r l v q 5) (sym i) (record { next = went-task v q n a; later = a .later })
+  stepped-visit after v q (Went.succeeds n a c j) =
+      subst (λ (l : List ℕ). Stepped s budget sets w r after l q 5) (sym j) (record { next = went-success after q n a c; later = refl })
 
--- where the run has stopped, its answer is the rules'
-pub stopped-ending : (s : List ℕ) (budget ab : ℕ) (sets w : List ℕ) (r : Run) → State s budget ab sets w r → (r .state ≡ 0 → ⊥) → Stopped s budget sets r
-stopped-ending s budget ab sets w r (goes-on h) n = absurd (n (h .state))
-stopped-ending s budget ab sets w r (ended b e x) n = record { b = b; book = e; ending = x }
+-- ---- a step
 
-pub still-searching : (s : List ℕ) (budget ab : ℕ) (sets w : List ℕ) (r : Run) → State s budget ab sets w r → r .state ≡ 0 → Searching s budget ab sets w r
-still-searching s budget ab sets w r (goes-on h) e = h
-still-searching s budget ab sets w r (ended b i (all-visited x y z)) e = absurd (omega (arith, x, e))
-still-searching s budget ab sets w r (ended b i (out-of-budget x z)) e = absurd (omega (arith, x, e))
-still-searching s budget ab sets w r (ended b i (out-of-room x z)) e = absurd (omega (arith, x, e))
+module _ {s : List ℕ} {budget : ℕ} {sets w : List ℕ} {r : Run} where
+  pub stepped-somewhere : {after v : List ℕ} {q : Run} {n : ℕ} → Stepped s budget sets w r after v q n → Somewhere v q n
+  stepped-somewhere {after} p = record { s = s; budget = budget; sets = after; low = suc (r .nodes); state = p .next }
 
--- ---- a success noted, as the code does it
+  pub stepped-passes : {after v u : List ℕ} {q o : Run} {m n : ℕ} → Stepped s budget sets w r after v q m → Passes v q m u o n → Stepped s budget sets w r after u o n
+  stepped-passes {after} p x = record { next = x .next s budget after (suc (r .nodes)) (p .next); later = x .later ∙ p .later }
 
-pub note-full : (sets : List ℕ) (r : Run) (n : ℕ) (after : List ℕ) (q : Run) → Laid (insert (take (r .count) sets) (r .set)) sets n after → length after < n → q ≡ stopped r 31 → Noted sets r after q
-note-full sets r n after q l h e =
-    let kept : List ℕ = insert (take (r .count) sets) (r .set) in
-    let size : length after ≡ length sets = ap length (l .list) ∙ length-lay kept sets in
-    full (omega (arith, l .count)) size e
+-- the last piece, which sees the image
+pub record Onward (s : List ℕ) (w : List ℕ) (r q : Run) : Type 0 where
+  pub next : (budget : ℕ) (sets : List ℕ) (low : ℕ) → State s budget sets w r 2 low → State s budget sets w q 0 low
 
-pub note-inserted : (sets : List ℕ) (r : Run) (n : ℕ) (after : List ℕ) (q : Run) → Laid (insert (take (r .count) sets) (r .set)) sets n after → n ≤ length after → q ≡ recounted r n → Noted sets r after q
-note-inserted sets r n after q l h e =
-    let kept : List ℕ = insert (take (r .count) sets) (r .set) in
-    let size : length after ≡ length sets = ap length (l .list) ∙ length-lay kept sets in
-    let fits : length kept ≤ length sets = omega (arith, l .count) in
-    inserted n (l .count) (omega arith) (ap₂ take (l .count) (l .list) ∙ take-lay kept sets fits) size e
+-- where it stands, with the image
+pub record Placed (s w : List ℕ) (r : Run) (n : ℕ) : Type 0 where
+  pub budget : ℕ
+  pub sets : List ℕ
+  pub low : ℕ
+  pub state : State s budget sets w r n low
+
+pub placed-standing : (s w : List ℕ) (r : Run) → Placed s w r 2 → r .state ≡ 2 → Standing s w r 2
+placed-standing s w r p e = go (p .state)
+  where
+    go : State s (p .budget) (p .sets) w r 2 (p .low) → Standing s w r 2
+    go (goes-on x i k) = record { b = x .b; all = x .all; holds = x .holds; state = e }
+    go (ended b i x k) = absurd (not-ended b (p .budget) (p .sets) r 2 x e (omega arith) (omega arith))
+
+pub onward-moved : (s w : List ℕ) (r q : Run) → r .state ≡ 2 → Moved s w r w q 0 → Onward s w r q
+onward-moved s w r q e m = record { next = λ budget sets low x. go budget sets low x }
+  where
+    go : (budget : ℕ) (sets : List ℕ) (low : ℕ) → State s budget sets w r 2 low → State s budget sets w q 0 low
+    go budget sets low (goes-on x i k) = goes-on (moved-on s budget sets w r w q 0 m x) (m .state) (omega (arith, m .nodes))
+    go budget sets low (ended b i x k) = absurd (not-ended b budget sets r 2 x e (omega arith) (omega arith))
+
+pub onward-same : (s w : List ℕ) (r : Run) → (r .state ≡ 2 → ⊥) → Onward s w r r
+onward-same s w r e = record { next = λ budget sets low x. go budget sets low x }
+  where
+    go : (budget : ℕ) (sets : List ℕ) (low : ℕ) → State s budget sets w r 2 low → State s budget sets w r 0 low
+    go budget sets low (goes-on x i k) =
+        let one : r .state ≡ 1 → ⊥ = working s (x .b) w r (x .all) (x .holds) in
+        goes-on x (omega (arith, e, one)) k
+    go budget sets low (ended b i x k) = ended b i x k
+
+pub stepped-placed : {s : List ℕ} {budget : ℕ} {sets w after v : List ℕ} {r q : Run} {n : ℕ} → Stepped s budget sets w r after v q n → Placed s v q n
+stepped-placed {budget = budget} {after = after} {r = r} p = record { budget = budget; sets = after; low = suc (r .nodes); state = p .next }
+
+pub stepped-onward : {s : List ℕ} {budget : ℕ} {sets w after v : List ℕ} {r q o : Run} → Stepped s budget sets w r after v q 2 → Onward s v q o → Stepped s budget sets w r after v o 0
+stepped-onward {budget = budget} {after = after} {r = r} p x = record { next = x .next budget after (suc (r .nodes)) (p .next); later = p .later }
+
+-- ---- the whole
+
+pub still-searching : (s : List ℕ) (budget : ℕ) (sets w : List ℕ) (r : Run) (low : ℕ) → State s budget sets w r 0 low → r .state ≡ 0 → Searching s budget sets w r
+still-searching s budget sets w r low (goes-on x i k) e = x
+still-searching s budget sets w r low (ended b i (all-visited y c a) k) e = absurd (omega (arith, y, e))
+still-searching s budget sets w r low (ended b i (out-of-budget y a) k) e = absurd (omega (arith, y, e))
+still-searching s budget sets w r low (ended b i (out-of-room y a) k) e = absurd (omega (arith, y, e))
+
+pub stopped-ending : (s : List ℕ) (budget : ℕ) (sets w : List ℕ) (r : Run) (low : ℕ) → State s budget sets w r 0 low → (r .state ≡ 0 → ⊥) → Stopped s budget sets r
+stopped-ending s budget sets w r low (goes-on x i k) n = absurd (n (omega arith))
+stopped-ending s budget sets w r low (ended b i x k) n = record { b = b; book = i; ending = x }
+
+pub state-lower : (s : List ℕ) (budget : ℕ) (sets w : List ℕ) (r : Run) (low : ℕ) → State s budget sets w r 0 low → State s budget sets w r 0 0
+state-lower s budget sets w r low (goes-on x i k) = goes-on x i (omega arith)
+state-lower s budget sets w r low (ended b i x k) = ended b i x (omega arith)
+
+pub started : (s : List ℕ) (budget : ℕ) (sets w : List ℕ) (r q : Run) → Searching s budget sets w r → Moved s w r w q 0 → State s budget sets w q 0 0
+started s budget sets w r q h m = goes-on (moved-on s budget sets w r w q 0 m h) (m .state) (omega arith)
+
+ahead-falls : (s : List ℕ) (budget : ℕ) (after v : List ℕ) (r q : Run) → r .nodes ≤ budget → r .state ≡ 0 → State s budget after v q 0 (suc (r .nodes)) → ahead budget q < ahead budget r
+ahead-falls s budget after v r q h z (goes-on x i k) = omega (arith, x .nodes)
+ahead-falls s budget after v r q h z (ended b i (all-visited y c a) k) = omega (arith, y)
+ahead-falls s budget after v r q h z (ended b i (out-of-budget y a) k) = omega (arith, y)
+ahead-falls s budget after v r q h z (ended b i (out-of-room y a) k) = omega (arith, y)
+
+pub stepped-falls : {s : List ℕ} {budget : ℕ} {sets w after v : List ℕ} {r q : Run} → Searching s budget sets w r → r .state ≡ 0 → Stepped s budget sets w r after v q 0 → ahead budget q < ahead budget r
+stepped-falls {s} {budget} {after = after} {v} {r} {q} h z p = ahead-falls s budget after v r q (h .nodes) z (p .next)

@@ -1,17 +1,19 @@
--- The start: the work area made ready and the root in hand.
+-- The start: the tables are filled, and the root's agenda is in hand.
 -- Assumes nothing.
 use Prim.Native.Nat.{ℕ, zero, suc, _+_, _-_, _*_, _≤_, _<_}
 use native.Mathlib.Omega.{arith}
 use mathlib.Core.Path.{_≡_, refl, sym, ap, ap₂, subst, subst₂, _∙_}
-use mathlib.Core.Bool.{false}
-use mathlib.Core.List.{List, [], _∷_, _++_, map, append-nil}
-use borrow.Author.Tests.{eq-eqb, ne-eqb}
+use mathlib.Core.Bool.{Bool, true, false}
+use mathlib.Core.Logic.{inl, inr}
+use mathlib.Core.List.{List, [], _∷_, _++_, map}
+use borrow.Author.Tests.{eqb-true, ne-eqb}
 use lib.Dec.{eqb}
-use lib.ListN.{length, getD, drop, length-append, length-drop, length-replicate, getD-replicate, List·getD-append}
-use lib.Seq.{drop-append-add, drop-drop}
-use Rattle.base.specs.Bools.{choose}
-use Rattle.base.specs.Lists.{every-none}
-use Rattle.book.specs.Book.{Lit, Clause, Constraint, Book}
+use lib.ListN.{length, getD, take, drop, drop-of-length-le}
+use lib.Seq.{drop-cons, drop-nil}
+use Rattle.base.specs.Bools.{choose, choose-false}
+use Rattle.base.specs.Lists.{_∈_, Every, every-none, every-more, sum}
+use Rattle.base.specs.Parts.{filter, put}
+use Rattle.book.specs.Book.{Lit, Clause, Constraint, Book, bodyCount, literalCount}
 use Rattle.book.specs.Encode.{longest}
 use Rattle.book.specs.Walk.{fieldAt}
 use Rattle.book.specs.Decode.{decode, accepted}
@@ -20,352 +22,454 @@ use Rattle.book.specs.StandsLaws.{stands-within}
 use Rattle.book.specs.Reads.{length-lits}
 use Rattle.book.specs.Written.{Within}
 use Rattle.book.specs.Faults.{limits}
-use Rattle.book.specs.Shown.{lits-at, skip, clauseCount, constraintCount, Shown, shown}
+use Rattle.book.specs.Shown.{lits-at, skip, clauseCount, constraintCount, clausePlace, noClause, noConstraint, Shown, shown}
 use Rattle.book.specs.Accepted.{within, orderly}
 use Rattle.sets.specs.Kept.{zeros}
 use Rattle.judging.specs.Meaning.{clausesFor}
-use Rattle.searching.specs.Rules.{Task, want, keep, root, on, gather, assumed}
+use Rattle.searching.specs.Rules.{Task, want, break, keep, opposites, root, on, gather, assumed}
 use Rattle.searching.specs.Bounds.{root-frames, root-named}
-use Rattle.lister.specs.declared.frames.Cell.{Cell}
-use Rattle.lister.specs.declared.walk.Run.{Run}
-use Rattle.lister.specs.Machine.{framed, Same, Chain, none, one, Ground, Area, newest, Own, lits, rules, Agenda, done, more, over, Fine, Held, bottom, picking, ready, Holds}
-use Rattle.lister.specs.Memory.{framed-length, framed-below, framed-word, framed-cell, framed-later, same-ways, held-same, raise}
-use Rattle.lister.specs.Moves.{body-of, rule-of}
-use Rattle.lister.specs.Tables.{Records, placed, placed-length, placed-in, placed-out, placed-later, Clauses, Chained}
+use Rattle.lister.specs.declared.moves.Run.{Run}
+use Rattle.lister.specs.Machine.{Listed, Chain, Records, Denied, undefined, broken, Ground, Area, Trail, Own, Tail, Agenda, bottom, Fine, Hand, Holds}
+use Rattle.lister.specs.Lay.{of, listed-same, row-same, row-chain, LaidLiterals, wiped-zero, wiped-length, wiped-stays, behind-stays}
+use Rattle.lister.specs.Links.{headIn, next, shut, Unlinked, Linked}
+use Rattle.lister.specs.Tables.{bookOf, book-of, sum-none, sum-all, sum-rises, getD-∈, clauseWay, clause-at, ClausesDue, ClausesLaid}
+use Rattle.lister.specs.Rules.{ruleWay, RulesDue, RulesLaid}
 
--- ---- the cells of the root
+-- ---- the numbers of the literals
 
-abbrev pub noCell : Cell
-noCell = record { kind = 0; from = 0; to = 0; link = 0 }
+-- What stands before the tables of clauses and constraints are filled: no mark, and each atom's literals.
+pub record Ready (s v : List ℕ) : Type 0 where
+  pub book : decode s ≡ accepted (bookOf s)
+  pub long : 16384 ≤ length v
+  pub marks : (p : ℕ) → p < 256 → getD v p 0 ≡ 0
+  pub assumable : (p : ℕ) → p < bookOf s .abducibles → (getD v (256 + 2 * p) 0 ≡ 2) × (getD v (256 + 2 * p + 1) 0 ≡ 1)
+  pub defined : (p : ℕ) → bookOf s .abducibles ≤ p → p < bookOf s .atoms → (getD v (256 + 2 * p) 0 ≡ 0) × (getD v (256 + 2 * p + 1) 0 ≡ 1)
 
--- all constraints
-unfoldable pub rulesCell : ℕ → Cell
-rulesCell many = choose (eqb many 0) noCell (record { kind = 4; from = 0; to = many; link = 1 })
+pub record AtomsLaid (s w v : List ℕ) : Type 0 where
+  pub size : length v ≡ length w
+  pub ready : Ready s v
+  pub stays : (j : ℕ) → 768 ≤ j → getD v j 0 ≡ getD w j 0
 
--- the goal, and then the constraints
-unfoldable pub goalCell : ℕ → Cell → Cell
-goalCell goals c = choose (eqb goals 0) c (record { kind = 1; from = 11; to = 11 + 2 * goals; link = 2 })
+-- the counts in front of the image
+pub record Front (s : List ℕ) : Type 0 where
+  pub atoms : fieldAt s 5 ≡ bookOf s .atoms
+  pub abducibles : fieldAt s 7 ≡ bookOf s .abducibles
+  pub goals : fieldAt s 9 ≡ length (bookOf s .goal)
+  pub most : bookOf s .atoms ≤ 256
+  pub among : bookOf s .abducibles ≤ bookOf s .atoms
+  pub few : length (bookOf s .goal) ≤ 16
+  pub there : 13 + 2 * length (bookOf s .goal) ≤ length s
+  pub short : length s ≤ 8751
 
-abbrev pub rootRun : Cell → Run
-rootRun c =
-    record { state = 0; due = 1; kind = c .kind; from = c .from; to = c .to; link = c .link; top = 2; nodes = 0; count = 0; set = 0 }
+pub front : (s : List ℕ) → decode s ≡ accepted (bookOf s) → Front s
+front s e =
+    let sh : Shown s (bookOf s) = shown s (bookOf s) e in
+    let fine : Within limits (bookOf s) = within s (bookOf s) e in
+    record {
+      atoms = sh .atoms;
+      abducibles = sh .abducibles;
+      goals = sh .goals;
+      most = fine .atoms;
+      among = fine .among;
+      few = fine .goal;
+      there = omega (arith, sh .front, sh .fits);
+      short = longest s (bookOf s) e;
+    }
 
--- two frames with nothing to try: the end of every agenda, and the constraints
-unfoldable pub grounded : List ℕ → ℕ → List ℕ
-grounded w many = framed (framed w 0 noCell 0 0 0 0) 1 (rulesCell many) 0 0 0 0
+pub atoms-laid : (s w v₀ v₁ v₂ : List ℕ) (atoms abducibles : ℕ) → decode s ≡ accepted (bookOf s) → 16384 ≤ length w → atoms ≡ fieldAt s 5 → abducibles ≡ fieldAt s 7
+    → v₀ ≡ zeros 256 ++ drop 256 w → LaidLiterals v₀ 0 abducibles 2 v₁ → LaidLiterals v₁ abducibles atoms 0 v₂ → AtomsLaid s w v₂
+atoms-laid s w v₀ v₁ v₂ atoms abducibles e long p q z l₁ l₂ =
+    let f = front s e in
+    let a : atoms ≡ bookOf s .atoms = p ∙ f .atoms in
+    let b : abducibles ≡ bookOf s .abducibles = q ∙ f .abducibles in
+    let among = f .among in
+    let most = f .most in
+    let size₀ : length v₀ ≡ length w = ap length z ∙ wiped-length w 256 (omega arith) in
+    let size : length v₂ ≡ length w = l₂ .size ∙ l₁ .size ∙ size₀ in
+    record {
+      size = size;
+      ready =
+          record {
+            book = e;
+            long = omega arith;
+            marks = λ j h. l₂ .stays j (λ x y. omega arith) ∙ l₁ .stays j (λ x y. omega arith) ∙ ap (λ (u : List ℕ). getD u j 0) z ∙ wiped-zero w 256 j h;
+            assumable = λ j h. (l₂ .stays (256 + 2 * j) (λ x y. omega arith) ∙ l₁ .written j (omega arith) (omega arith) .0, l₂ .stays (256 + 2 * j + 1) (λ x y. omega arith) ∙ l₁ .written j (omega arith) (omega arith) .1);
+            defined = λ j g h. l₂ .written j (omega arith) (omega arith);
+          };
+      stays = λ j h. l₂ .stays j (λ x y. omega arith) ∙ l₁ .stays j (λ x y. omega arith) ∙ ap (λ (u : List ℕ). getD u j 0) z ∙ wiped-stays w 256 j (omega arith);
+    }
 
--- ---- what the loops ask
+-- ---- the tables
 
-pub clauses-stand : (s : List ℕ) (b : Book) → decode s ≡ accepted b → Records s (clauseCount s + 2) (fieldAt s (clauseCount s))
-clauses-stand s b e = record {
-  there = λ i h. body-of s b (shown s b e) i (omega (arith, shown s b e .clauses)) .fits;
-  short = longest s b e;
-}
+-- They are filled.
+pub record Filled (s w v : List ℕ) : Type 0 where
+  pub size : length v ≡ length w
+  pub ground : Ground s (bookOf s) (of v)
+  pub area : Area (of v) v []
+  pub stays : (j : ℕ) → 7560 ≤ j → getD v j 0 ≡ getD w j 0
 
-pub rules-stand : (s : List ℕ) (b : Book) → decode s ≡ accepted b → Records s (constraintCount s + 2) (fieldAt s (constraintCount s))
-rules-stand s b e = record {
-  there = λ i h. rule-of s b (shown s b e) i (omega (arith, shown s b e .constraints)) .fits;
-  short = longest s b e;
-}
+pub opposites-single : (ls : List Lit) → Every (λ (ks : List Lit). length ks ≤ 1) (opposites ls)
+opposites-single [] = every-none (λ (ks : List Lit). length ks ≤ 1)
+opposites-single (l ∷ ls) = every-more (omega arith) (opposites-single ls)
 
-pub wiped-zero : (w : List ℕ) (j : ℕ) → j < 512 → getD (zeros 512 ++ drop 512 w) j 0 ≡ 0
-wiped-zero w j h = List·getD-append (zeros 512) (drop 512 w) 0 j (omega (arith, length-replicate {A = ℕ} 512 0)) ∙ getD-replicate 512 j 0 0 h
+shut-next : (heads : ℕ → ℕ) (p c n : ℕ) → shut (next heads 768 1 p c n) ≡ next heads 768 0 p c n
+shut-next heads p c zero = refl
+shut-next heads p c (suc n) = go (eqb (heads c) p) (shut-next heads p (suc c) n)
+  where
+    go : (t : Bool) → shut (next heads 768 1 p (suc c) n) ≡ next heads 768 0 p (suc c) n → shut (choose t (768 + 2 * c) (next heads 768 1 p (suc c) n)) ≡ choose t (768 + 2 * c) (next heads 768 0 p (suc c) n)
+    go true r = choose-false 0 (768 + 2 * c) (ne-eqb (768 + 2 * c) 1 (λ z. omega (arith, z)))
+    go false r = r
 
-pub wiped-length : (w : List ℕ) → 512 ≤ length w → length (zeros 512 ++ drop 512 w) ≡ length w
-wiped-length w h = omega (arith, length-append (zeros 512) (drop 512 w), length-replicate {A = ℕ} 512 0, length-drop 512 w)
+-- with no clause of head p the number stays
+next-none : (heads : ℕ → ℕ) (base e p c n : ℕ) → ((i : ℕ) → c ≤ i → i < c + n → heads i ≡ p → ⊥) → next heads base e p c n ≡ e
+next-none heads base e p c zero h = refl
+next-none heads base e p c (suc n) h = go (eqb (heads c) p) refl (next-none heads base e p (suc c) n (λ i a b. h i (omega arith) (omega arith)))
+  where
+    go : (t : Bool) → eqb (heads c) p ≡ t → next heads base e p (suc c) n ≡ e → choose t (base + 2 * c) (next heads base e p (suc c) n) ≡ e
+    go true z r = absurd (h c (omega arith) (omega arith) (eqb-true (heads c) p z))
+    go false z r = r
 
-wiped-later : (n : ℕ) (w : List ℕ) (k : ℕ) → drop (n + k) (zeros n ++ drop n w) ≡ drop (n + k) w
-wiped-later n w k =
-    ap (λ (m : ℕ). drop (m + k) (zeros n ++ drop n w)) (sym (length-replicate {A = ℕ} n 0))
-    ∙ drop-append-add (zeros n) (drop n w) k
-    ∙ drop-drop k n w
+at-drop : {A : Type 0} (l : List A) (k : ℕ) (d a : A) (later : List A) → drop k l ≡ a ∷ later → (k < length l) × (getD l k d ≡ a)
+at-drop [] k d a later e = let f : a ∷ later ≡ [] = sym e ∙ drop-nil k in let z : _≡_ {A = ℕ} 0 1 = cc in absurd (omega arith)
+at-drop (x ∷ l) zero d a later e = (omega arith, cc)
+at-drop (x ∷ l) (suc k) d a later e = let r = at-drop l k d a later e in (omega (arith, r .0), r .1)
 
-pub clauses-asked : (s w v : List ℕ) (b : Book) (start count : ℕ) → decode s ≡ accepted b → 16384 ≤ length w → start ≡ clauseCount s + 2 → count ≡ fieldAt s (clauseCount s)
-    → v ≡ placed s (zeros 512 ++ drop 512 w) 1025 start count → Clauses s v count
-clauses-asked s w v b start count e long p c i =
-    let few : count ≤ 512 = omega (arith, shown s b e .clauses, within s b e .clauses) in
-    subst (λ (u : List ℕ). Clauses s u count) (sym i)
-    (record {
-      b = b;
-      book = e;
-      counted = c;
-      places =
-          λ j h.
-          let at : 1024 + suc j ≡ 1025 + j = omega arith in
-          ap (λ (n : ℕ). getD (placed s (zeros 512 ++ drop 512 w) 1025 start count) n 0) at
-          ∙ placed-in s (zeros 512 ++ drop 512 w) 1025 start count j h (omega (arith, wiped-length w (omega arith)))
-          ∙ ap (λ (n : ℕ). skip s n j) p;
-      unlinked =
-          λ j h. placed-out s (zeros 512 ++ drop 512 w) 1025 start count 0 1025 (λ i x y z o. omega arith) (256 + j) (omega arith) (omega arith) ∙ wiped-zero w (256 + j) (omega arith);
-      long = omega (arith, placed-length s (zeros 512 ++ drop 512 w) 1025 start count, wiped-length w (omega arith));
-    })
+module _ (s w v₁ v₂ v : List ℕ) (ready : Ready s w) (at way : ℕ) (laid : ClausesLaid s w v₁ (length (bookOf s .clauses)) at way)
+    (linked : Linked v₁ (length (bookOf s .clauses)) v₂ 0) (base : ℕ) (first : base ≡ ruleWay (bookOf s) 0) (ruled : RulesLaid s v₂ base v) where
+  abbrev b : Book
+  b = bookOf s
+
+  abbrev tab : ℕ → ℕ
+  tab = of v
+
+  fine : Within limits b
+  fine = within s b (ready .book)
+
+  few : length (b .clauses) ≤ 512
+  few = fine .clauses
+
+  base-is : base ≡ clauseWay b (length (b .clauses))
+  base-is = omega (arith, first, sum-all bodyCount (b .clauses))
+
+  base-low : 2440 + 2 * length (b .clauses) ≤ base
+  base-low = omega (arith, first)
+
+  count : linked .left ≡ length (b .clauses)
+  count = omega (arith, linked .sum)
+
+  abbrev clause : ℕ → Clause
+  clause i = getD (b .clauses) i noClause
+
+  -- below the records of the constraints only the linking writes
+  low : (j : ℕ) → j < 1792 → getD v j 0 ≡ getD v₂ j 0
+  low j h = ruled .stays j (λ x y. omega arith) (λ x y. omega (arith, base-low))
+
+  in-ways : (j : ℕ) → 2440 ≤ j → j < base → getD v j 0 ≡ getD v₂ j 0
+  in-ways j p q = ruled .stays j (λ x y. omega arith) (λ x y. omega arith)
+
+  heads-are : (i : ℕ) → i < length (b .clauses) → headIn v₁ i ≡ clause i .head
+  heads-are i h = laid .tables i h .head
+
+  literals-stay : (j : ℕ) → j < 768 → getD v₁ j 0 ≡ getD w j 0
+  literals-stay j h = laid .stays j (λ x y. omega arith) (λ x y. omega arith)
+
+  -- the numbers of an atom's literals
+  way-of : (p : ℕ) → p < 256 → tab (256 + 2 * p) ≡ next (headIn v₁) 2440 (getD w (256 + 2 * p) 0) p 0 (length (b .clauses))
+  way-of p h =
+      low (256 + 2 * p) (omega arith) ∙ linked .ways p h
+      ∙ ap₂ (λ (e n : ℕ). next (headIn v₁) 2440 e p 0 n) (literals-stay (256 + 2 * p) (omega arith)) count
+
+  record-of : (p : ℕ) → p < 256 → tab (256 + 2 * p + 1) ≡ next (headIn v₁) 768 (getD w (256 + 2 * p + 1) 0) p 0 (length (b .clauses))
+  record-of p h =
+      low (256 + 2 * p + 1) (omega arith) ∙ linked .records p h
+      ∙ ap₂ (λ (e n : ℕ). next (headIn v₁) 768 e p 0 n) (literals-stay (256 + 2 * p + 1) (omega arith)) count
+
+  -- a head is a defined atom
+  head-fine : (i : ℕ) → i < length (b .clauses) → (b .abducibles ≤ headIn v₁ i) × (headIn v₁ i < b .atoms)
+  head-fine i h =
+      let f = fine .clausesFine (clause i) (getD-∈ (b .clauses) i noClause h) in
+      (omega (arith, heads-are i h, f .defined), omega (arith, heads-are i h, f .known))
+
+  -- clause i in the tables
+  listed : (i : ℕ) → i < length (b .clauses) → Listed s tab (tab (2440 + 2 * i)) (clause i .body)
+  listed i h =
+      let f = few in
+      subst (λ (n : ℕ). Listed s tab n (clause i .body))
+      (sym (in-ways (2440 + 2 * i) (omega arith) (omega (arith, base-low)) ∙ linked .stays (2440 + 2 * i) (λ x y. omega arith) (λ k x y. omega (arith, y)) (λ k x y. omega (arith, y))))
+      (listed-same s (λ j. 0) tab (laid .tables i h .listed))
+
+  next-way : (i n : ℕ) → i + suc n ≡ length (b .clauses) → tab (2440 + 2 * i + 1) ≡ next (headIn v₁) 2440 0 (headIn v₁ i) (suc i) n
+  next-way i n e =
+      let f = head-fine i (omega arith) in
+      in-ways (2440 + 2 * i + 1) (omega arith) (omega (arith, base-low)) ∙ linked .way i n (omega arith) e
+      ∙ ap (λ (k : ℕ). next (headIn v₁) 2440 k (headIn v₁ i) (suc i) n)
+      (literals-stay (256 + 2 * headIn v₁ i) (omega (arith, f .1, fine .atoms)) ∙ ready .defined (headIn v₁ i) (f .0) (f .1) .0)
+
+  next-record : (i n : ℕ) → i + suc n ≡ length (b .clauses) → tab (768 + 2 * i + 1) ≡ next (headIn v₁) 768 0 (headIn v₁ i) (suc i) n
+  next-record i n e =
+      let f = head-fine i (omega arith) in
+      let all = few in
+      low (768 + 2 * i + 1) (omega arith) ∙ linked .recorded i n (omega arith) e
+      ∙ ap (λ (k : ℕ). shut (next (headIn v₁) 768 k (headIn v₁ i) (suc i) n))
+      (literals-stay (256 + 2 * headIn v₁ i + 1) (omega (arith, f .1, fine .atoms)) ∙ ready .defined (headIn v₁ i) (f .0) (f .1) .1)
+      ∙ shut-next (headIn v₁) (headIn v₁ i) (suc i) n
+
+  broken-chain : (i : ℕ) → i < length (b .clauses) → Chain s tab (tab (768 + 2 * i)) (opposites (clause i .body))
+  broken-chain i h =
+      let all = few in
+      let rises : sum bodyCount (take (i + 1) (b .clauses)) ≤ sum bodyCount (take (length (b .clauses)) (b .clauses)) = sum-rises bodyCount (b .clauses) (i + 1) (length (b .clauses)) (omega arith) in
+      let end : clauseWay b (i + 1) ≤ base = omega (arith, base-is) in
+      let k = clause-at s b (ready .book) i h in
+      let room : clauseWay b (i + 1) ≤ 7560 = k .room in
+      subst (λ (n : ℕ). Chain s tab n (opposites (clause i .body)))
+      (sym (low (768 + 2 * i) (omega arith) ∙ linked .stays (768 + 2 * i) (λ x y. omega arith) (λ m x y. omega (arith, y)) (λ m x y. omega (arith, y))))
+      (row-chain s tab (clauseWay b i) (clauseWay b (i + 1)) (omega arith) room
+      (row-same s (of v₁) tab (clauseWay b i) (clauseWay b (i + 1)) (clauseWay b i) (clauseWay b (i + 1)) (omega arith) (omega arith)
+      (λ j x y. in-ways j (omega arith) (omega arith) ∙ linked .stays j (λ a c. omega arith) (λ m a c. omega (arith, c)) (λ m a c. omega (arith, c)))
+      (laid .tables i h .broken)))
+
+  abbrev for : ℕ → ℕ → List Clause
+  for p c = filter (λ (k : Clause). eqb (k .head) p) (drop c (b .clauses))
+
+  none-from : (p c : ℕ) → c + 0 ≡ length (b .clauses) → for p c ≡ []
+  none-from p c e = ap (filter (λ (k : Clause). eqb (k .head) p)) (drop-of-length-le (b .clauses) {i = c} (omega arith))
+
+  some-from : (p c n : ℕ) → c + suc n ≡ length (b .clauses) → for p c ≡ put (eqb (headIn v₁ c) p) (clause c) (for p (suc c))
+  some-from p c n e =
+      ap (filter (λ (k : Clause). eqb (k .head) p)) (drop-cons (b .clauses) c noClause (omega arith))
+      ∙ ap (λ (h : ℕ). put (eqb h p) (clause c) (for p (suc c))) (sym (heads-are c (omega arith)))
+
+  -- the ways to p through its clauses from c on
+  ways-from : (p c n : ℕ) → c + n ≡ length (b .clauses) → Chain s tab (next (headIn v₁) 2440 0 p c n) (map (λ (k : Clause). k .body) (for p c))
+  ways-from p c zero e = subst (λ (ks : List Clause). Chain s tab 0 (map (λ (k : Clause). k .body) ks)) (sym (none-from p c e)) Chain.end
+  ways-from p c (suc n) e =
+      subst (λ (ks : List Clause). Chain s tab (next (headIn v₁) 2440 0 p c (suc n)) (map (λ (k : Clause). k .body) ks)) (sym (some-from p c n e))
+      (go (eqb (headIn v₁ c) p) refl (ways-from p (suc c) n (omega arith)))
+    where
+      go : (t : Bool) → eqb (headIn v₁ c) p ≡ t → Chain s tab (next (headIn v₁) 2440 0 p (suc c) n) (map (λ (k : Clause). k .body) (for p (suc c)))
+          → Chain s tab (choose t (2440 + 2 * c) (next (headIn v₁) 2440 0 p (suc c) n)) (map (λ (k : Clause). k .body) (put t (clause c) (for p (suc c))))
+      go true t r =
+          let f = few in
+          Chain.way {w = 2440 + 2 * c} (omega arith) (omega arith) (listed c (omega arith))
+          (subst (λ (m : ℕ). Chain s tab m (map (λ (k : Clause). k .body) (for p (suc c))))
+          (sym (next-way c n e ∙ ap (λ (h : ℕ). next (headIn v₁) 2440 0 h (suc c) n) (eqb-true (headIn v₁ c) p t))) r)
+      go false t r = r
+
+  one-record : (p c n : ℕ) → c + suc n ≡ length (b .clauses) → headIn v₁ c ≡ p → {ts : List Task} → Records s tab (next (headIn v₁) 768 0 p (suc c) n) ts → Records s tab (768 + 2 * c) (break (clause c) ∷ ts)
+  one-record p c n e t {ts} r =
+      let f = few in
+      Records.record-at {e = 768 + 2 * c} (omega arith) (omega arith) (broken-chain c (omega arith)) (inl (opposites-single (clause c .body)))
+      (subst (λ (m : ℕ). Records s tab m ts) (sym (next-record c n e ∙ ap (λ (h : ℕ). next (headIn v₁) 768 0 h (suc c) n) t)) r)
+
+  records-from : (p c n : ℕ) → c + n ≡ length (b .clauses) → Records s tab (next (headIn v₁) 768 0 p c n) (map break (for p c))
+  records-from p c zero e = subst (λ (ks : List Clause). Records s tab 0 (map break ks)) (sym (none-from p c e)) Records.end
+  records-from p c (suc n) e =
+      subst (λ (ks : List Clause). Records s tab (next (headIn v₁) 768 0 p c (suc n)) (map break ks)) (sym (some-from p c n e))
+      (go (eqb (headIn v₁ c) p) refl (records-from p (suc c) n (omega arith)))
+    where
+      go : (t : Bool) → eqb (headIn v₁ c) p ≡ t → Records s tab (next (headIn v₁) 768 0 p (suc c) n) (map break (for p (suc c)))
+          → Records s tab (choose t (768 + 2 * c) (next (headIn v₁) 768 0 p (suc c) n)) (map break (put t (clause c) (for p (suc c))))
+      go true t r = one-record p c n e (eqb-true (headIn v₁ c) p t) r
+      go false t r = r
+
+  denied-from : (p c n : ℕ) → c + n ≡ length (b .clauses) → Denied s tab (next (headIn v₁) 768 1 p c n) (map break (for p c))
+  denied-from p c zero e = subst (λ (ks : List Clause). Denied s tab 1 (map break ks)) (sym (none-from p c e)) undefined
+  denied-from p c (suc n) e =
+      subst (λ (ks : List Clause). Denied s tab (next (headIn v₁) 768 1 p c (suc n)) (map break ks)) (sym (some-from p c n e))
+      (go (eqb (headIn v₁ c) p) refl (denied-from p (suc c) n (omega arith)))
+    where
+      go : (t : Bool) → eqb (headIn v₁ c) p ≡ t → Denied s tab (next (headIn v₁) 768 1 p (suc c) n) (map break (for p (suc c)))
+          → Denied s tab (choose t (768 + 2 * c) (next (headIn v₁) 768 1 p (suc c) n)) (map break (put t (clause c) (for p (suc c))))
+      go true t r = broken (one-record p c n e (eqb-true (headIn v₁ c) p t) (records-from p (suc c) n (omega arith)))
+      go false t r = r
+
+  all-for : (p : ℕ) → clausesFor b p ≡ for p 0
+  unfolding clausesFor
+  all-for p = refl
+
+  rule-record : (k : ℕ) (c : Constraint) (cs : List Constraint) → drop k (b .constraints) ≡ c ∷ cs → Records s tab (1792 + 2 * k) (keep c ∷ [])
+  rule-record k c cs e =
+      let d = at-drop (b .constraints) k noConstraint c cs e in
+      let less : k < length (b .constraints) = d .0 in
+      let all : length (b .constraints) ≤ 128 = fine .constraints in
+      subst (λ (x : Constraint). Records s tab (1792 + 2 * k) (keep x ∷ [])) (d .1)
+      (Records.record-at {e = 1792 + 2 * k} (omega arith) (omega arith) (row-chain s tab base 7560 (omega (arith, base-low)) (omega arith) (ruled .rows k less)) (inr (ruled .links k less))
+      (subst (λ (m : ℕ). Records s tab m []) (sym (ruled .links k less)) Records.end))
+
+  ground : Ground s b tab
+  ground = record {
+    book = ready .book;
+    assumable =
+        λ p h.
+        let a : p < 256 = omega (arith, fine .among, fine .atoms) in
+        let none : (i : ℕ) → 0 ≤ i → i < 0 + length (b .clauses) → headIn v₁ i ≡ p → ⊥ = λ i x y z. omega (arith, z, head-fine i (omega arith) .0) in (
+          way-of p a ∙ next-none (headIn v₁) 2440 (getD w (256 + 2 * p) 0) p 0 (length (b .clauses)) none ∙ ready .assumable p h .0,
+          record-of p a ∙ next-none (headIn v₁) 768 (getD w (256 + 2 * p + 1) 0) p 0 (length (b .clauses)) none ∙ ready .assumable p h .1,
+        );
+    reached =
+        λ p g h.
+        let a : p < 256 = omega (arith, fine .atoms) in
+        subst₂ (λ (m : ℕ) (ks : List Clause). Chain s tab m (map (λ (k : Clause). k .body) ks))
+        (sym (way-of p a ∙ ap (λ (e : ℕ). next (headIn v₁) 2440 e p 0 (length (b .clauses))) (ready .defined p g h .0))) (sym (all-for p))
+        (ways-from p 0 (length (b .clauses)) (omega arith));
+    denied =
+        λ p g h.
+        let a : p < 256 = omega (arith, fine .atoms) in
+        subst₂ (λ (m : ℕ) (ks : List Clause). Denied s tab m (map break ks))
+        (sym (record-of p a ∙ ap (λ (e : ℕ). next (headIn v₁) 768 e p 0 (length (b .clauses))) (ready .defined p g h .1))) (sym (all-for p))
+        (denied-from p 0 (length (b .clauses)) (omega arith));
+    rule = rule-record;
+    last = ruled .last;
+    cell = ruled .cells;
+  }
+
+  zero-marks : (p : ℕ) → p < 256 → getD v p 0 ≡ 0
+  zero-marks p h =
+      low p (omega arith) ∙ linked .stays p (λ x y. omega arith) (λ i x y. omega (arith, y)) (λ i x y. omega (arith, y)) ∙ literals-stay p (omega arith) ∙ ready .marks p h
+
+  all-size : length v ≡ length w
+  all-size = ruled .size ∙ linked .size ∙ laid .size
+
+  pub filled : Filled s w v
+  unfolding on
+  filled = record {
+    size = all-size;
+    ground = ground;
+    area = record { long = omega (arith, all-size, ready .long); tabled = λ j p q. refl; marked = zero-marks };
+    stays =
+        λ j h.
+        let f = few in
+        ruled .stays j (λ x y. omega arith) (λ x y. omega arith)
+        ∙ linked .stays j (λ x y. omega arith) (λ i x y. omega (arith, y)) (λ i x y. omega (arith, y))
+        ∙ laid .stays j (λ x y. omega arith) (λ x y. omega arith);
+  }
+
+-- ---- the tables, as the code fills them
+
+module _ (s w : List ℕ) (ready : Ready s w) (goals : ℕ) (g : goals ≡ fieldAt s 9) where
+  place-is : 11 + 2 * goals ≡ clauseCount s
+  unfolding clauseCount
+  place-is = ap (λ (n : ℕ). 11 + 2 * n) g
+
+  pub tables-front : (11 + 2 * goals + 2 ≤ length s) × (length s ≤ 8751)
+  tables-front = let f = front s (ready .book) in (omega (arith, g, f .goals, f .there), f .short)
+
+  module _ (count : ℕ) (n : count ≡ fieldAt s (11 + 2 * goals)) where
+    counted : count ≡ length (bookOf s .clauses)
+    counted = n ∙ ap (fieldAt s) place-is ∙ shown s (bookOf s) (ready .book) .clauses
+
+    pub clauses-asked : ClausesDue s w (11 + 2 * goals + 2) count
+    unfolding skip
+    clauses-asked = record { book = ready .book; place = ap (λ (k : ℕ). k + 2) place-is; counted = counted; long = ready .long }
+
+    module _ (v₁ : List ℕ) (at way : ℕ) (laid : ClausesLaid s w v₁ count at way) where
+      pub links-asked : Unlinked v₁ count
+      links-asked =
+          let fine : Within limits (bookOf s) = within s (bookOf s) (ready .book) in
+          record {
+            few = omega (arith, counted, fine .clauses);
+            long = omega (arith, laid .size, ready .long);
+            heads =
+                λ i h.
+                let less : i < length (bookOf s .clauses) = omega (arith, counted) in
+                omega (arith, laid .tables i h .head, clause-at s (bookOf s) (ready .book) i less .known);
+          }
+
+      rules-place : at ≡ constraintCount s
+      unfolding constraintCount
+      rules-place = laid .place ∙ ap (clausePlace s) (n ∙ ap (fieldAt s) place-is)
+
+      pub rules-there : (at + 2 ≤ length s) × (length s ≤ 8751)
+      rules-there = (omega (arith, rules-place, shown s (bookOf s) (ready .book) .fits), front s (ready .book) .short)
+
+      module _ (v₂ : List ℕ) (linked : Linked v₁ count v₂ 0) (many : ℕ) (m : many ≡ fieldAt s at) where
+        way-is : way ≡ ruleWay (bookOf s) 0
+        way-is =
+            let w : way ≡ clauseWay (bookOf s) (length (bookOf s .clauses)) = laid .ways ∙ ap (clauseWay (bookOf s)) counted in
+            omega (arith, sum-all bodyCount (bookOf s .clauses), sum-none literalCount (bookOf s .constraints))
+
+        pub rules-asked : RulesDue s v₂ (at + 2) way many
+        unfolding skip
+        rules-asked = record {
+          book = ready .book;
+          place = ap (λ (k : ℕ). k + 2) rules-place;
+          ways = way-is;
+          counted = m ∙ ap (fieldAt s) rules-place ∙ shown s (bookOf s) (ready .book) .constraints;
+          long = omega (arith, linked .size, laid .size, ready .long);
+        }
+
+        pub tables-filled : (v : List ℕ) → RulesLaid s v₂ way v → Filled s w v
+        tables-filled v ruled =
+            filled s w v₁ v₂ v ready at way (subst (λ (k : ℕ). ClausesLaid s w v₁ k at way) counted laid) (subst (λ (k : ℕ). Linked v₁ k v₂ 0) counted linked) way way-is ruled
 
 -- ---- the root
 
+abbrev pub rootRun : ℕ → Run
+rootRun goals =
+    record { state = 2; task = 0; at = 11; end = 11 + 2 * goals; link = 2050; marked = 7560; top = 8584; nodes = 0; count = 0; set = 0 }
+
 -- What the start leaves.
 pub record Started (s w v : List ℕ) (r : Run) : Type 0 where
-  pub holds : (b : Book) → decode s ≡ accepted b → Holds s (fieldAt s 7) b v r (root b ∷ [])
-  pub state : r .state ≡ 0
-  pub due : r .due ≡ 1
+  pub holds : (b : Book) → decode s ≡ accepted b → Holds s b v r (root b ∷ [])
+  pub state : r .state ≡ 2
   pub nodes : r .nodes ≡ 0
   pub count : r .count ≡ 0
   pub later : drop 16384 v ≡ drop 16384 w
 
-module _ (s w : List ℕ) (long : 16384 ≤ length w) (start count : ℕ) (p : start ≡ clauseCount s + 2) (q : count ≡ fieldAt s (clauseCount s))
-    (v₂ : List ℕ) (chained : Chained s (placed s (zeros 512 ++ drop 512 w) 1025 start count) count v₂) (size₂ : length v₂ ≡ length w)
-    (start₂ many : ℕ) (p₂ : start₂ ≡ constraintCount s + 2) (q₂ : many ≡ fieldAt s (constraintCount s)) where
-  module _ (b : Book) (e : decode s ≡ accepted b) where
-    image : Shown s b
-    image = shown s b e
+module _ (s w v : List ℕ) (f : Filled s w v) (goals : ℕ) (g : goals ≡ fieldAt s 9) where
+  abbrev its : Book
+  its = bookOf s
 
-    fine : Within limits b
-    fine = within s b e
+  agenda : Agenda s its (of v) v 0 11 (11 + 2 * goals) 2050 (map want (its .goal) ++ map keep (its .constraints))
+  agenda =
+      let sh : Shown s its = shown s its (f .ground .book) in
+      go goals (its .goal) (g ∙ sh .goals) (sh .goal)
+    where
+      go : (n : ℕ) (ls : List Lit) → n ≡ length ls → Stands s 11 (ofLits ls) → Agenda s its (of v) v 0 11 (11 + 2 * n) 2050 (map want ls ++ map keep (its .constraints))
+      go n [] x st = Agenda.linked {at = 11} {end = 11 + 2 * n} (omega (arith, x)) (omega arith) (Tail.rules 0 (omega arith))
+      go n (l ∷ ls) x st =
+          Agenda.more
+          (subst (λ (ks : List Lit). Own s (of v) 11 (11 + 2 * n) (map want ks)) (lits-at s 11 (l ∷ ls) st)
+          (Own.lits {at = 11} {end = 11 + 2 * n} (length ls) (omega (arith, x)) (omega (arith, x, length-lits (l ∷ ls), stands-within (ofLit l) (ofLits ls) st))))
+          (Tail.rules 0 (omega arith))
 
-    clauses : count ≡ length (b .clauses)
-    clauses = q ∙ image .clauses
+  gather-none : (n : ℕ) → gather n (λ (j : ℕ). false) ≡ 0
+  unfolding gather
+  gather-none zero = refl
+  gather-none (suc n) = omega (arith, gather-none n)
 
-    constraints : many ≡ length (b .constraints)
-    constraints = q₂ ∙ image .constraints
+  set-none : 0 ≡ assumed its []
+  unfolding on
+  set-none = sym (gather-none (its .abducibles))
 
-    abbrev tab : ℕ → ℕ
-    tab j = getD (placed s v₂ 1537 start₂ many) j 0
+  root-fine : Fine its 0 (root its)
+  root-fine =
+      let fine : Within limits its = within s its (f .ground .book) in
+      (omega (arith, root-frames its, fine .constraints, fine .atoms, fine .clauses), root-named its (orderly s its (f .ground .book)))
 
-    -- the second loop leaves the chains as they are
-    low : Same v₂ (placed s v₂ 1537 start₂ many) 0 1537
-    low = placed-out s v₂ 1537 start₂ many 0 1537 (λ j x y z o. omega arith)
-
-    chain-same : {c : ℕ} {ks : List Clause} → Chain b (λ j. getD v₂ j 0) c ks → Chain b tab c ks
-    chain-same none = none
-    chain-same (one {ks = ks} i l ch) =
-        one i l (subst (λ (n : ℕ). Chain b (λ j. getD (placed s v₂ 1537 start₂ many) j 0) n ks) (sym (low (512 + suc i) (omega arith) (omega (arith, fine .clauses)))) (chain-same ch))
-
-    ground : Ground s (fieldAt s 7) b tab
-    ground = record {
-      book = e;
-      abducibles = image .abducibles;
-      first = λ j h. subst (λ (n : ℕ). Chain b tab n (clausesFor b j)) (sym (low (256 + j) (omega arith) (omega arith))) (chain-same (chained .chains b e j h));
-      clause =
-          λ i h.
-          let at : 1024 + suc i ≡ 1025 + i = omega arith in
-          low (1024 + suc i) (omega arith) (omega (arith, fine .clauses))
-          ∙ chained .places (1024 + suc i) (omega arith) (omega (arith, fine .clauses))
-          ∙ ap (λ (n : ℕ). getD (placed s (zeros 512 ++ drop 512 w) 1025 start count) n 0) at
-          ∙ placed-in s (zeros 512 ++ drop 512 w) 1025 start count i (omega (arith, clauses)) (omega (arith, clauses, fine .clauses, wiped-length w (omega arith)))
-          ∙ ap (λ (n : ℕ). skip s n i) p;
-      rule =
-          λ i h.
-          placed-in s v₂ 1537 start₂ many i (omega (arith, constraints)) (omega (arith, constraints, fine .constraints))
-          ∙ ap (λ (n : ℕ). skip s n i) p₂;
-    }
-
-    zero-marks : (j : ℕ) → j < 256 → getD (placed s v₂ 1537 start₂ many) j 0 ≡ 0
-    zero-marks j h =
-        low j (omega arith) (omega arith) ∙ chained .marks j (omega arith) h
-        ∙ placed-out s (zeros 512 ++ drop 512 w) 1025 start count 0 1025 (λ i x y z o. omega arith) j (omega arith) (omega arith)
-        ∙ wiped-zero w j (omega arith)
-
-    wide : 16384 ≤ length (placed s v₂ 1537 start₂ many)
-    wide = omega (arith, placed-length s v₂ 1537 start₂ many)
-
-    -- the two frames
-    abbrev one-frame : List ℕ
-    one-frame = framed (placed s v₂ 1537 start₂ many) 0 noCell 0 0 0 0
-
-    one-wide : 16384 ≤ length one-frame
-    one-wide = omega (arith, wide, framed-length (placed s v₂ 1537 start₂ many) 0 noCell 0 0 0 0)
-
-    rules-agenda : Agenda s b tab ([] ∷ []) (rulesCell many) (map keep (b .constraints))
-    unfolding rulesCell
-    rules-agenda = go many constraints
-      where
-        none-left : (ks : List Constraint) → 0 ≡ length ks → Agenda s b tab ([] ∷ []) noCell (map keep ks)
-        none-left [] z = done refl
-        none-left (k ∷ ks) z = absurd (omega arith)
-
-        go : (n : ℕ) → n ≡ length (b .constraints) → Agenda s b tab ([] ∷ []) (choose (eqb n 0) noCell (record { kind = 4; from = 0; to = n; link = 1 })) (map keep (b .constraints))
-        go zero z = none-left (b .constraints) z
-        go (suc n) z =
-            rw (ne-eqb (suc n) 0 (λ x. omega (arith, x)))
-            (subst (λ (ts : List Task). Agenda s b tab ([] ∷ []) (record { kind = 4; from = 0; to = suc n; link = 1 }) ts) (append-nil (map keep (b .constraints)))
-            (more (rules {i = 0} (omega arith) z) newest))
-
-    goal-agenda : (goals : ℕ) → goals ≡ fieldAt s 9 → Agenda s b tab (map keep (b .constraints) ∷ [] ∷ []) (goalCell goals (rulesCell many)) (map want (b .goal) ++ map keep (b .constraints))
-    unfolding goalCell
-    goal-agenda goals z = go goals (b .goal) (z ∙ image .goals) (image .goal)
-      where
-        go : (n : ℕ) (ls : List Lit) → n ≡ length ls → Stands s 11 (ofLits ls)
-            → Agenda s b tab (map keep (b .constraints) ∷ [] ∷ []) (choose (eqb n 0) (rulesCell many) (record { kind = 1; from = 11; to = 11 + 2 * n; link = 2 })) (map want ls ++ map keep (b .constraints))
-        go n [] x st = rw (eq-eqb n 0 x) (raise s b tab rules-agenda)
-        go n (l ∷ ls) x st =
-            rw (ne-eqb n 0 (λ o. omega (arith, o, x)))
-            (more
-            (subst (λ (ks : List Lit). Own s b tab 1 11 (11 + 2 * n) (map want ks)) (lits-at s 11 (l ∷ ls) st)
-            (lits {from = 11} {to = 11 + 2 * n} (length ls) (omega (arith, x)) (omega (arith, x, length-lits (l ∷ ls), stands-within (ofLit l) (ofLits ls) st))))
-            newest)
-
-    frames-held : Held s b tab (grounded (placed s v₂ 1537 start₂ many) many) 2 (map keep (b .constraints) ∷ [] ∷ []) [] []
-    unfolding grounded
-    frames-held =
-        let area : List ℕ = placed s v₂ 1537 start₂ many in
-        let first : Held s b tab one-frame 1 ([] ∷ []) [] [] =
-        picking
-        (subst (λ (c : Cell). Agenda s b tab [] c []) (sym (framed-cell area 0 noCell 0 0 0 0 (omega (arith, wide)))) (done refl))
-        (framed-word area 0 noCell 0 0 0 0 4 (omega (arith, wide)) (omega arith))
-        (same-ways s b tab
-        (sym (framed-word area 0 noCell 0 0 0 0 5 (omega (arith, wide)) (omega arith)))
-        (sym (framed-word area 0 noCell 0 0 0 0 6 (omega (arith, wide)) (omega arith)))
-        (sym (framed-word area 0 noCell 0 0 0 0 7 (omega (arith, wide)) (omega arith)))
-        (over {cursor = 0} {turn = 0} {stop = 0} (omega arith) (omega arith)))
-        (every-none (Fine s b tab 1))
-        bottom in
-        picking
-        (subst (λ (c : Cell). Agenda s b tab ([] ∷ []) c (map keep (b .constraints))) (sym (framed-cell one-frame 1 (rulesCell many) 0 0 0 0 (omega (arith, one-wide)))) rules-agenda)
-        (framed-word one-frame 1 (rulesCell many) 0 0 0 0 4 (omega (arith, one-wide)) (omega arith))
-        (same-ways s b tab
-        (sym (framed-word one-frame 1 (rulesCell many) 0 0 0 0 5 (omega (arith, one-wide)) (omega arith)))
-        (sym (framed-word one-frame 1 (rulesCell many) 0 0 0 0 6 (omega (arith, one-wide)) (omega arith)))
-        (sym (framed-word one-frame 1 (rulesCell many) 0 0 0 0 7 (omega (arith, one-wide)) (omega arith)))
-        (over {cursor = 0} {turn = 0} {stop = 0} (omega arith) (omega arith)))
-        (every-none (Fine s b tab 2))
-        (held-same s b tab (λ j x y. framed-below one-frame 1 (rulesCell many) 0 0 0 0 j (omega arith) y) first)
-
-    grounded-area : Area tab (grounded (placed s v₂ 1537 start₂ many) many) []
-    unfolding grounded on
-    grounded-area =
-        let area : List ℕ = placed s v₂ 1537 start₂ many in
-        let same : Same area (framed one-frame 1 (rulesCell many) 0 0 0 0) 0 1672 =
-        λ j x y. framed-below one-frame 1 (rulesCell many) 0 0 0 0 j x (omega arith) ∙ framed-below area 0 noCell 0 0 0 0 j x (omega arith) in
-        record {
-          long = omega (arith, one-wide, framed-length one-frame 1 (rulesCell many) 0 0 0 0);
-          tabled = λ j x y. same j (omega arith) y;
-          marked = λ j h. same j (omega arith) (omega arith) ∙ zero-marks j h;
-        }
-
-    gather-none : (n : ℕ) → gather n (λ (j : ℕ). false) ≡ 0
-    unfolding gather
-    gather-none zero = refl
-    gather-none (suc n) = omega (arith, gather-none n)
-
-    set-none : 0 ≡ assumed b []
-    unfolding on
-    set-none = sym (gather-none (b .abducibles))
-
-    root-fine : Fine s b tab 2 (root b)
-    root-fine = (omega (arith, root-frames b, fine .constraints, fine .atoms, fine .clauses), root-named b (orderly s b e))
-
-    pub started-holds : (goals : ℕ) → goals ≡ fieldAt s 9 → Holds s (fieldAt s 7) b (grounded (placed s v₂ 1537 start₂ many) many) (rootRun (goalCell goals (rulesCell many))) (root b ∷ [])
-    started-holds goals z = record {
-      tab = tab;
-      ags = map keep (b .constraints) ∷ [] ∷ [];
-      sheet = [];
-      due = [];
-      ground = ground;
-      area = grounded-area;
-      held = frames-held;
-      chosen = set-none;
-      low = omega arith;
-      hand = ready refl (goal-agenda goals z) root-fine;
-    }
-
-  grounded-later : (u : List ℕ) → drop 16384 (grounded u many) ≡ drop 16384 u
-  unfolding grounded
-  grounded-later u = framed-later (framed u 0 noCell 0 0 0 0) 1 (rulesCell many) 0 0 0 0 (omega arith) ∙ framed-later u 0 noCell 0 0 0 0 (omega arith)
-
-  pub started : (goals : ℕ) (v : List ℕ) (r : Run) → goals ≡ fieldAt s 9 → count ≤ 512 → many ≤ 128 → v ≡ grounded (placed s v₂ 1537 start₂ many) many → r ≡ rootRun (goalCell goals (rulesCell many)) → Started s w v r
-  started goals v r z few least i j = record {
-    holds = λ b e. subst₂ (λ (u : List ℕ) (o : Run). Holds s (fieldAt s 7) b u o (root b ∷ [])) (sym i) (sym j) (started-holds b e goals z);
-    state = ap (λ (o : Run). o .state) j;
-    due = ap (λ (o : Run). o .due) j;
-    nodes = ap (λ (o : Run). o .nodes) j;
-    count = ap (λ (o : Run). o .count) j;
-    later =
-        ap (drop 16384) i ∙ grounded-later (placed s v₂ 1537 start₂ many) ∙ placed-later s v₂ 1537 start₂ many (omega arith)
-        ∙ chained .later ∙ placed-later s (zeros 512 ++ drop 512 w) 1025 start count (omega arith) ∙ wiped-later 512 w 15872;
+  root-holds : Holds s its v (rootRun goals) (root its ∷ [])
+  root-holds = record {
+    tab = of v;
+    height = 0;
+    marks = 0;
+    used = 0;
+    sheet = [];
+    due = [];
+    ground = f .ground;
+    area = f .area;
+    trail = Trail.none;
+    held = bottom;
+    chosen = set-none;
+    marked = refl;
+    top = refl;
+    hand = Hand.agenda refl agenda root-fine;
   }
 
--- ---- the image is a book's
-
-pub record IsBook (s : List ℕ) : Type 0 where
-  pub b : Book
-  pub book : decode s ≡ accepted b
-
--- its counts, where they stand and how large they are
-pub record Counts (s : List ℕ) : Type 0 where
-  pub goals : fieldAt s 9 ≤ 16
-  pub clauses : fieldAt s (clauseCount s) ≤ 512
-  pub rules : fieldAt s (constraintCount s) ≤ 128
-  pub front : clauseCount s + 2 ≤ constraintCount s
-  pub there : constraintCount s + 2 ≤ length s
-  pub short : length s ≤ 8751
-  pub place : clauseCount s ≡ 11 + 2 * fieldAt s 9
-  pub behind : constraintCount s ≡ skip s (clauseCount s + 2) (fieldAt s (clauseCount s))
-
-pub counts : (s : List ℕ) → IsBook s → Counts s
-unfolding clauseCount constraintCount
-counts s i =
-    let b : Book = i .b in
-    let sh : Shown s b = shown s b (i .book) in
-    let w : Within limits b = within s b (i .book) in
-    record {
-      goals = omega (arith, sh .goals, w .goal);
-      clauses = omega (arith, sh .clauses, w .clauses);
-      rules = omega (arith, sh .constraints, w .constraints);
-      front = omega (arith, sh .front, sh .goals);
-      there = sh .fits;
-      short = longest s b (i .book);
-      place = refl;
-      behind = refl;
-    }
-
--- ---- the start, as the code does it
-
-module _ (s w : List ℕ) (i : IsBook s) (long : 16384 ≤ length w) (goals count : ℕ) (g : goals ≡ fieldAt s 9) where
-  front-at : 11 + 2 * goals ≡ clauseCount s
-  front-at = omega (arith, g, counts s i .place)
-
-  pub front-there : 11 + 2 * goals + 2 ≤ length s
-  front-there = let n = counts s i in omega (arith, front-at, n .front, n .there)
-
-  start-at : 11 + 2 * goals + 2 ≡ clauseCount s + 2
-  start-at = omega (arith, front-at)
-
-  module _ (n : count ≡ fieldAt s (11 + 2 * goals)) where
-    count-is : count ≡ fieldAt s (clauseCount s)
-    count-is = n ∙ ap (fieldAt s) front-at
-
-    pub clauses-few : count ≤ 512
-    clauses-few = omega (arith, count-is, counts s i .clauses)
-
-    pub clauses-there : Records s (11 + 2 * goals + 2) count
-    clauses-there = subst₂ (Records s) (sym start-at) (sym count-is) (clauses-stand s (i .b) (i .book))
-
-    pub clauses-placed : (v₀ v₁ : List ℕ) → v₀ ≡ zeros 512 ++ drop 512 w → v₁ ≡ placed s v₀ 1025 (11 + 2 * goals + 2) count → Clauses s v₁ count
-    clauses-placed v₀ v₁ a c =
-        clauses-asked s w v₁ (i .b) (11 + 2 * goals + 2) count (i .book) long start-at count-is (c ∙ ap (λ (v : List ℕ). placed s v 1025 (11 + 2 * goals + 2) count) a)
-
-    module _ (rules : ℕ) (p : rules ≡ skip s (11 + 2 * goals + 2) count) where
-      rules-at : rules ≡ constraintCount s
-      rules-at = p ∙ ap₂ (skip s) start-at count-is ∙ sym (counts s i .behind)
-
-      pub rules-there : (rules + 2 ≤ length s) × (length s ≤ 8751)
-      rules-there = (omega (arith, rules-at, counts s i .there), counts s i .short)
-
-      module _ (many : ℕ) (m : many ≡ fieldAt s rules) where
-        many-is : many ≡ fieldAt s (constraintCount s)
-        many-is = m ∙ ap (fieldAt s) rules-at
-
-        pub rules-few : many ≤ 128
-        rules-few = omega (arith, many-is, counts s i .rules)
-
-        pub rules-placed : Records s (rules + 2) many
-        rules-placed = subst₂ (Records s) (ap (λ (n : ℕ). n + 2) (sym rules-at)) (sym many-is) (rules-stand s (i .b) (i .book))
-
-        pub started-here : (v₀ v₁ v₂ v₃ v₄ : List ℕ) (r : Run) → v₀ ≡ zeros 512 ++ drop 512 w → v₁ ≡ placed s v₀ 1025 (11 + 2 * goals + 2) count → Chained s v₁ count v₂ → length v₂ ≡ length v₁
-            → v₃ ≡ placed s v₂ 1537 (rules + 2) many → v₄ ≡ grounded v₃ many → r ≡ rootRun (goalCell goals (rulesCell many)) → Started s w v₄ r
-        started-here v₀ v₁ v₂ v₃ v₄ r a c ch l d f o =
-            let first : v₁ ≡ placed s (zeros 512 ++ drop 512 w) 1025 (11 + 2 * goals + 2) count = c ∙ ap (λ (v : List ℕ). placed s v 1025 (11 + 2 * goals + 2) count) a in
-            started s w long (11 + 2 * goals + 2) count start-at count-is v₂
-            (subst (λ (v : List ℕ). Chained s v count v₂) first ch)
-            (l ∙ ap length first ∙ placed-length s (zeros 512 ++ drop 512 w) 1025 (11 + 2 * goals + 2) count ∙ wiped-length w (omega arith))
-            (rules + 2) many (ap (λ (n : ℕ). n + 2) rules-at) many-is
-            goals v₄ r g clauses-few rules-few (f ∙ ap (λ (v : List ℕ). grounded v many) d) o
+  pub started : (r : Run) → r ≡ rootRun goals → (u : List ℕ) → length w ≡ length u → ((j : ℕ) → 768 ≤ j → getD w j 0 ≡ getD u j 0) → Started s u v r
+  started r e u z h = record {
+    holds = λ b i. subst₂ (λ (c : Book) (o : Run). Holds s c v o (root c ∷ [])) (book-of s b i) (sym e) root-holds;
+    state = ap (λ (o : Run). o .state) e;
+    nodes = ap (λ (o : Run). o .nodes) e;
+    count = ap (λ (o : Run). o .count) e;
+    later = behind-stays u v 16384 (f .size ∙ z) (λ j k. f .stays j (omega arith) ∙ h j (omega arith));
+  }

@@ -1,270 +1,302 @@
--- The tables of the work area: places of records, and the chains of clauses by head, as the preparing loops fill them.
+-- The tables of clauses and constraints, as the loops fill them.
 -- Assumes nothing.
-use Prim.Native.Nat.{ℕ, zero, suc, _+_, _-_, _≤_, _<_}
+use Prim.Native.Nat.{ℕ, zero, suc, _+_, _-_, _*_, _/_, _≤_, _<_}
 use native.Mathlib.Omega.{arith}
-use mathlib.Core.Path.{_≡_, refl, sym, ap, ap₂, subst, _∙_}
+use mathlib.Core.Path.{_≡_, refl, sym, ap, ap₂, subst, subst₂, _∙_}
 use mathlib.Core.Bool.{Bool, true, false}
-use mathlib.Core.List.{List, [], _∷_, _++_, append-assoc}
+use mathlib.Core.List.{List, [], _∷_, append-nil}
 use borrow.Author.Tests.{eqb-true, eqb-false}
 use lib.Dec.{eqb}
-use lib.ListN.{length, getD, set, drop, length-set, length-replicate, replicate-append-replicate, drop-of-length-le}
-use lib.Seq.{drop-cons, set-at, getD-set-same, getD-set-other, drop-set-lt}
-use Rattle.base.specs.Lists.{_∈_}
-use Rattle.base.specs.Parts.{filter, put}
-use Rattle.book.specs.Book.{Clause, Book}
+use lib.ListN.{length, getD, set, take, length-set}
+use Rattle.base.specs.Lists.{_∈_, here, there, sum}
+use Rattle.book.specs.Book.{Lit, Clause, Book, bodyCount}
 use Rattle.book.specs.Encode.{longest}
 use Rattle.book.specs.Walk.{fieldAt}
-use Rattle.book.specs.Decode.{decode, accepted}
-use Rattle.book.specs.StandsLaws.{stands-value, stands-rest}
-use Rattle.book.specs.Shown.{skip, clauseCount, clausePlace, noClause, shown}
+use Rattle.book.specs.Decode.{Decoded, accepted, refused, decode}
+use Rattle.book.specs.Spell.{ofLits, ofClause, Stands}
+use Rattle.book.specs.StandsLaws.{stands-at, stands-value, stands-rest, stands-within}
+use Rattle.book.specs.Reads.{length-lits}
+use Rattle.book.specs.Shown.{litsAt, lits-at, skip, clausePlace, noClause, Shown, shown}
 use Rattle.book.specs.Written.{Within}
 use Rattle.book.specs.Faults.{limits}
 use Rattle.book.specs.Accepted.{within}
-use Rattle.sets.specs.Kept.{zeros}
-use Rattle.judging.specs.Meaning.{clausesFor}
-use Rattle.lister.specs.Machine.{Same, Chain, none, one}
-use Rattle.lister.specs.Moves.{Body, body-of, getD-∈}
+use Rattle.searching.specs.Rules.{opposites}
+use Rattle.lister.specs.Machine.{Listed}
+use Rattle.lister.specs.Lay.{of, Literals, lits-fit, Row, stop, row-same, set-here, set-there, pair-stays, pair-first, pair-second, pair-length, OppositesLaid}
 
--- ---- zeros in front
+-- ---- the image's book
 
-pub wiping : (w : List ℕ) (i : ℕ) → i < length w → set (zeros i ++ drop i w) i 0 ≡ zeros (i + 1) ++ drop (i + 1) w
-wiping w i h =
-    let up : suc i ≡ i + 1 = omega arith in
-    ap (λ (l : List ℕ). set (zeros i ++ l) i 0) (drop-cons w i 0 h)
-    ∙ set-at (zeros i) (getD w i 0) (drop (suc i) w) 0 i (length-replicate i 0)
-    ∙ sym (append-assoc (zeros i) (0 ∷ []) (drop (suc i) w))
-    ∙ ap₂ (λ (l m : List ℕ). l ++ m) (replicate-append-replicate i 1 0) (ap (λ (n : ℕ). drop n w) up)
+abbrev pub theBook : Decoded → Book
+theBook (accepted b) = b
+theBook (refused n) = record { atoms = 0; abducibles = 0; goal = []; clauses = []; constraints = [] }
 
--- ---- places
+unfoldable pub bookOf : List ℕ → Book
+bookOf s = theBook (decode s)
 
--- `count` records stand from `start` on
-pub record Records (s : List ℕ) (start count : ℕ) : Type 0 where
-  pub there : (i : ℕ) → i < count → skip s start i + 2 + fieldAt s (skip s start i) ≤ length s
-  pub short : length s ≤ 8751
+pub book-of : (s : List ℕ) (b : Book) → decode s ≡ accepted b → bookOf s ≡ b
+unfolding bookOf
+book-of s b e = ap theBook e
 
--- their places written from `base` on
-unfoldable pub placed : List ℕ → List ℕ → ℕ → ℕ → ℕ → List ℕ
-placed s w base start zero = w
-placed s w base start (suc n) = set (placed s w base start n) (base + n) (skip s start n)
-
-module _ (s w : List ℕ) (base start : ℕ) where
-  pub placed-length : (n : ℕ) → length (placed s w base start n) ≡ length w
-  unfolding placed
-  placed-length zero = refl
-  placed-length (suc n) = length-set (placed s w base start n) (base + n) (skip s start n) ∙ placed-length n
-
-  pub placed-in : (n i : ℕ) → i < n → base + n ≤ length w → getD (placed s w base start n) (base + i) 0 ≡ skip s start i
-  unfolding placed
-  placed-in zero i h q = absurd (omega arith)
-  placed-in (suc n) i h q = go (eqb i n) refl (placed-in n i)
-    where
-      go : (t : Bool) → eqb i n ≡ t → (i < n → base + n ≤ length w → getD (placed s w base start n) (base + i) 0 ≡ skip s start i)
-          → getD (set (placed s w base start n) (base + n) (skip s start n)) (base + i) 0 ≡ skip s start i
-      go true e ih =
-          subst (λ (j : ℕ). getD (set (placed s w base start n) (base + n) (skip s start n)) (base + j) 0 ≡ skip s start j) (sym (eqb-true i n e))
-          (getD-set-same (placed s w base start n) (base + n) (skip s start n) 0 (omega (arith, placed-length n)))
-      go false e ih =
-          let d : i ≡ n → ⊥ = eqb-false i n e in
-          getD-set-other (placed s w base start n) (base + n) (base + i) (skip s start n) 0 (λ x. d (omega (arith, x)))
-          ∙ ih (omega (arith, d)) (omega arith)
-
-  pub placed-out : (n lo hi : ℕ) → ((j : ℕ) → lo ≤ j → j < hi → base ≤ j → j < base + n → ⊥) → Same w (placed s w base start n) lo hi
-  unfolding placed
-  placed-out zero lo hi h j p q = refl
-  placed-out (suc n) lo hi h j p q =
-      getD-set-other (placed s w base start n) (base + n) j (skip s start n) 0 (λ x. h j p q (omega (arith, x)) (omega (arith, x)))
-      ∙ placed-out n lo hi (λ i a b c d. h i a b c (omega arith)) j p q
-
-  pub placed-later : (n : ℕ) → base + n ≤ 16384 → drop 16384 (placed s w base start n) ≡ drop 16384 w
-  unfolding placed
-  placed-later zero h = refl
-  placed-later (suc n) h = drop-set-lt 16384 (placed s w base start n) (base + n) (skip s start n) (omega arith) ∙ placed-later n (omega arith)
-
-pub skip-first : (s : List ℕ) (start : ℕ) → skip s start 0 ≡ start
-unfolding skip
-skip-first s start = refl
-
-pub skip-next : (s : List ℕ) (start i : ℕ) → skip s start i + 2 + fieldAt s (skip s start i) ≡ skip s start (i + 1)
-unfolding skip
-skip-next s start i = ap (skip s start) {x = suc i} {y = i + 1} (omega arith)
-
-pub placed-first : (s w : List ℕ) (base start : ℕ) → w ≡ placed s w base start 0
-unfolding placed
-placed-first s w base start = refl
-
-pub placed-next : (s w : List ℕ) (base start i : ℕ) → set (placed s w base start i) (base + i) (skip s start i) ≡ placed s w base start (i + 1)
-unfolding placed
-placed-next s w base start i = ap (placed s w base start) {x = suc i} {y = i + 1} (omega arith)
-
--- ---- chains
-
--- a chain of clauses none of which comes before clause lo
-pub data Above (b : Book) (tab : ℕ → ℕ) (lo : ℕ) : ℕ → List Clause → Type 0 where
-  stop : Above b tab lo 0 []
-  link : {ks : List Clause} (i : ℕ) → lo ≤ i → i < length (b .clauses) → Above b tab lo (tab (512 + suc i)) ks → Above b tab lo (suc i) (getD (b .clauses) i noClause ∷ ks)
-
-above-chain : {b : Book} {tab : ℕ → ℕ} {lo c : ℕ} {ks : List Clause} → Above b tab lo c ks → Chain b tab c ks
-above-chain stop = none
-above-chain (link i l h a) = one i h (above-chain a)
-
-above-same : {b : Book} {tab tab′ : ℕ → ℕ} {lo c : ℕ} {ks : List Clause} (lo′ : ℕ) → lo′ ≤ lo → ((j : ℕ) → 512 + lo < j → j ≤ 1024 → tab′ j ≡ tab j) → length (b .clauses) ≤ 512
-    → Above b tab lo c ks → Above b tab′ lo′ c ks
-above-same lo′ q f few stop = stop
-above-same {b} {tab} {tab′} lo′ q f few (link {ks = ks} i l h a) =
-    link i (omega arith) h (subst (λ (n : ℕ). Above b tab′ lo′ n ks) (sym (f (512 + suc i) (omega arith) (omega arith))) (above-same lo′ q f few a))
-
--- the clauses for p from clause c on
-abbrev pub for : Book → ℕ → ℕ → List Clause
-for b p c = filter (λ (k : Clause). eqb (k .head) p) (drop c (b .clauses))
-
--- What the linking of the clauses asks: their places, and no first clause yet.
-pub record Clauses (s w : List ℕ) (count : ℕ) : Type 0 where
+pub record IsBook (s : List ℕ) : Type 0 where
   pub b : Book
   pub book : decode s ≡ accepted b
-  pub counted : count ≡ fieldAt s (clauseCount s)
-  pub places : (i : ℕ) → i < count → getD w (1024 + suc i) 0 ≡ clausePlace s i
-  pub unlinked : (p : ℕ) → p < 256 → getD w (256 + p) 0 ≡ 0
+
+pub is-book : (s : List ℕ) → IsBook s → decode s ≡ accepted (bookOf s)
+is-book s i = i .book ∙ ap accepted (sym (book-of s (i .b) (i .book)))
+
+-- ---- sums up to a place
+
+module _ {A : Type 0} (f : A → ℕ) where
+  pub sum-none : (xs : List A) → sum f (take 0 xs) ≡ 0
+  sum-none xs = refl
+
+  pub sum-next : (xs : List A) (i : ℕ) (d : A) → i < length xs → sum f (take (suc i) xs) ≡ sum f (take i xs) + f (getD xs i d)
+  sum-next [] i d h = absurd (omega arith)
+  sum-next (x ∷ xs) zero d h = omega arith
+  sum-next (x ∷ xs) (suc i) d h = omega (arith, sum-next xs i d (omega arith))
+
+  pub sum-rises : (xs : List A) (i j : ℕ) → i ≤ j → sum f (take i xs) ≤ sum f (take j xs)
+  sum-rises [] zero j h = omega arith
+  sum-rises [] (suc i) j h = omega arith
+  sum-rises (x ∷ xs) zero j h = omega arith
+  sum-rises (x ∷ xs) (suc i) zero h = absurd (omega arith)
+  sum-rises (x ∷ xs) (suc i) (suc j) h = omega (arith, sum-rises xs i j (omega arith))
+
+  pub sum-all : (xs : List A) → sum f (take (length xs) xs) ≡ sum f xs
+  sum-all [] = refl
+  sum-all (x ∷ xs) = ap (λ (n : ℕ). f x + n) (sum-all xs)
+
+pub getD-∈ : {A : Type 0} (l : List A) (i : ℕ) (d : A) → i < length l → getD l i d ∈ l
+getD-∈ [] i d h = absurd (omega arith)
+getD-∈ (a ∷ l) zero d h = here
+getD-∈ (a ∷ l) (suc i) d h = there (getD-∈ l i d (omega arith))
+
+-- ---- clauses
+
+-- where the ways of clause i's opposites begin
+abbrev pub clauseWay : Book → ℕ → ℕ
+clauseWay b i = 2440 + 2 * length (b .clauses) + 2 * sum bodyCount (take i (b .clauses))
+
+-- clause i in the image
+pub record ClauseAt (s : List ℕ) (b : Book) (i : ℕ) : Type 0 where
+  pub size : fieldAt s (clausePlace s i) ≡ 2 * suc (length (getD (b .clauses) i noClause .body))
+  pub head : fieldAt s (clausePlace s i + 2) ≡ getD (b .clauses) i noClause .head
+  pub known : getD (b .clauses) i noClause .head < 256
+  pub literals : Literals s (clausePlace s i + 4) (length (getD (b .clauses) i noClause .body))
+  pub body : litsAt s (clausePlace s i + 4) (length (getD (b .clauses) i noClause .body)) ≡ getD (b .clauses) i noClause .body
+  pub next : clausePlace s i + 4 + 2 * length (getD (b .clauses) i noClause .body) ≡ clausePlace s (i + 1)
+  pub ways : clauseWay b i + 2 * length (getD (b .clauses) i noClause .body) ≡ clauseWay b (i + 1)
+  pub room : clauseWay b (i + 1) ≤ 7560
+  pub few : length (b .clauses) ≤ 512
+
+pub clause-at : (s : List ℕ) (b : Book) → decode s ≡ accepted b → (i : ℕ) → i < length (b .clauses) → ClauseAt s b i
+unfolding skip
+clause-at s b e i h =
+    let sh : Shown s b = shown s b e in
+    let fine : Within limits b = within s b e in
+    let c : Clause = getD (b .clauses) i noClause in
+    let at : ℕ = clausePlace s i in
+    let st : Stands s at (ofClause c) = sh .clause i h in
+    let many : length (ofLits (c .body)) ≡ length (c .body) = length-lits (c .body) in
+    let size : fieldAt s at ≡ 2 * suc (length (ofLits (c .body))) = stands-value st in
+    let whole : at + 2 * length (ofClause c) ≤ length s = stands-within (2 * length (c .head ∷ ofLits (c .body))) (c .head ∷ ofLits (c .body)) st in
+    let four : at + 2 + 2 ≡ at + 4 = omega arith in
+    let body : Stands s (at + 4) (ofLits (c .body)) = stands-at four (stands-rest (stands-rest st)) in
+    let isFine = fine .clausesFine c (getD-∈ (b .clauses) i noClause h) in
+    let up : i + 1 ≡ suc i = omega arith in
+    let sums : sum bodyCount (take (i + 1) (b .clauses)) ≡ sum bodyCount (take i (b .clauses)) + length (c .body) =
+    ap (λ (n : ℕ). sum bodyCount (take n (b .clauses))) up ∙ sum-next bodyCount (b .clauses) i noClause h in
+    let most : sum bodyCount (take (i + 1) (b .clauses)) ≤ sum bodyCount (b .clauses) =
+    subst (λ (n : ℕ). sum bodyCount (take (i + 1) (b .clauses)) ≤ n) (sum-all bodyCount (b .clauses)) (sum-rises bodyCount (b .clauses) (i + 1) (length (b .clauses)) (omega arith)) in
+    record {
+      size = omega arith;
+      head = stands-value (stands-rest st);
+      known = omega (arith, isFine .known, fine .atoms);
+      literals = lits-fit s (at + 4) (c .body) body (longest s b e) (omega arith) (λ l m. let n = isFine .named l m in omega (arith, n, fine .atoms));
+      body = lits-at s (at + 4) (c .body) body;
+      next = subst (λ (n : ℕ). at + 4 + 2 * length (c .body) ≡ clausePlace s n) (sym up) (omega arith);
+      ways = omega arith;
+      room = omega (arith, fine .clauses, fine .bodies);
+      few = fine .clauses;
+    }
+
+-- What the tables have of clause i before the clauses are linked.
+pub record ClauseTable (s : List ℕ) (b : Book) (v : List ℕ) (i : ℕ) : Type 0 where
+  pub listed : Listed s (λ j. 0) (getD v (2440 + 2 * i) 0) (getD (b .clauses) i noClause .body)
+  pub head : getD v (2440 + 2 * i + 1) 0 ≡ getD (b .clauses) i noClause .head
+  pub broken : Row s (of v) (clauseWay b i) (clauseWay b (i + 1)) (getD v (768 + 2 * i) 0) (opposites (getD (b .clauses) i noClause .body))
+
+-- clause c is the next
+pub record ClauseDue (s w : List ℕ) (c at way : ℕ) : Type 0 where
+  pub book : decode s ≡ accepted (bookOf s)
+  pub less : c < length (bookOf s .clauses)
+  pub place : at ≡ clausePlace s c
+  pub ways : way ≡ clauseWay (bookOf s) c
   pub long : 16384 ≤ length w
 
--- The clauses from c on are linked.
-pub record Linking (s w : List ℕ) (count : ℕ) (v : List ℕ) (c : ℕ) : Type 0 where
-  pub most : c ≤ count
+-- and is laid
+pub record ClauseLaid (s w : List ℕ) (c : ℕ) (v : List ℕ) (at way : ℕ) : Type 0 where
+  pub place : at ≡ clausePlace s (c + 1)
+  pub ways : way ≡ clauseWay (bookOf s) (c + 1)
   pub size : length v ≡ length w
-  pub marks : Same w v 0 256
-  pub places : Same w v 1025 16384
-  pub later : drop 16384 v ≡ drop 16384 w
-  pub linked : (b : Book) → decode s ≡ accepted b → (p : ℕ) → p < 256 → Above b (λ j. getD v j 0) c (getD v (256 + p) 0) (for b p c)
+  pub table : ClauseTable s (bookOf s) v c
+  pub stays : (j : ℕ) → (j ≡ 768 + 2 * c → ⊥) → (2440 + 2 * c ≤ j → j < 2440 + 2 * c + 2 → ⊥) → (clauseWay (bookOf s) c ≤ j → j < clauseWay (bookOf s) (c + 1) → ⊥)
+      → getD v j 0 ≡ getD w j 0
 
--- All are.
-pub record Chained (s w : List ℕ) (count : ℕ) (v : List ℕ) : Type 0 where
-  pub marks : Same w v 0 256
-  pub places : Same w v 1025 16384
-  pub later : drop 16384 v ≡ drop 16384 w
-  pub chains : (b : Book) → decode s ≡ accepted b → (p : ℕ) → p < 256 → Chain b (λ j. getD v j 0) (getD v (256 + p) 0) (clausesFor b p)
+module _ (s w : List ℕ) (c at way : ℕ) (due : ClauseDue s w c at way) where
+  -- what stands at its place
+  pub record Record (n : ℕ) : Type 0 where
+    pub few : c < 512
+    pub there : at + 4 ≤ length s
+    pub short : length s ≤ 8751
+    pub literals : Literals s (at + 4) n
+    pub behind : 2440 + 2 * c + 2 ≤ way
+    pub room : way + 2 * n ≤ 7560
 
-module _ (s w : List ℕ) (count : ℕ) (pre : Clauses s w count) where
-  many : (b : Book) → decode s ≡ accepted b → count ≡ length (b .clauses)
-  many b e = pre .counted ∙ shown s b e .clauses
+  count-is : (n : ℕ) → n ≡ fieldAt s at / 2 - 1 → n ≡ length (getD (bookOf s .clauses) c noClause .body)
+  count-is n e =
+      let k = clause-at s (bookOf s) (due .book) c (due .less) in
+      let z : fieldAt s at ≡ 2 * suc (length (getD (bookOf s .clauses) c noClause .body)) = ap (fieldAt s) (due .place) ∙ k .size in
+      omega arith
 
-  pub linking-start : Linking s w count w count
-  linking-start = record {
+  pub clause-there : (at + 4 ≤ length s) × (length s ≤ 8751) × (2 ≤ fieldAt s at)
+  clause-there =
+      let k = clause-at s (bookOf s) (due .book) c (due .less) in
+      let z : fieldAt s at ≡ 2 * suc (length (getD (bookOf s .clauses) c noClause .body)) = ap (fieldAt s) (due .place) ∙ k .size in
+      (omega (arith, due .place, k .literals .there), k .literals .short, omega arith)
+
+  pub clause-record : (n : ℕ) → n ≡ fieldAt s at / 2 - 1 → Record n
+  clause-record n e =
+      let k = clause-at s (bookOf s) (due .book) c (due .less) in
+      let is = count-is n e in
+      let less = due .less in
+      let few = k .few in
+      let first = due .ways in
+      record {
+        few = omega arith;
+        there = clause-there .0;
+        short = clause-there .1;
+        literals = subst₂ (λ (p m : ℕ). Literals s (p + 4) m) (sym (due .place)) (sym is) (k .literals);
+        behind = omega arith;
+        room = omega (arith, k .ways, k .room);
+      }
+
+  pub clause-laid : (n x h link : ℕ) (v : List ℕ) → n ≡ fieldAt s at / 2 - 1 → Listed s (λ j. 0) x (litsAt s (at + 4) n) → h ≡ fieldAt s (at + 2)
+      → OppositesLaid s (set (set w (2440 + 2 * c) x) (2440 + 2 * c + 1) h) way (at + 4) n 0 v link
+      → ClauseLaid s w c (set v (768 + 2 * c) link) (at + 4 + 2 * n) (way + 2 * n)
+  clause-laid n x h link v e l i o =
+      let b : Book = bookOf s in
+      let k = clause-at s b (due .book) c (due .less) in
+      let r = clause-record n e in
+      let ls : List Lit = getD (b .clauses) c noClause .body in
+      let is : n ≡ length ls = count-is n e in
+      let low : 2440 + 2 * c + 2 ≤ way = r .behind in
+      let first : way ≡ clauseWay b c = due .ways in
+      let last : way + 2 * n ≡ clauseWay b (c + 1) = omega (arith, k .ways) in
+      let old : List ℕ = set (set w (2440 + 2 * c) x) (2440 + 2 * c + 1) h in
+      let fits : 2440 + 2 * c + 2 ≤ length w = omega (arith, due .long, r .room) in
+      let size : length v ≡ length w = o .size ∙ pair-length w (2440 + 2 * c) x h in
+      let lits : litsAt s (at + 4) n ≡ ls = ap₂ (λ (p m : ℕ). litsAt s (p + 4) m) (due .place) is ∙ k .body in
+      let row : Row s (of v) way (way + 2 * n) link (opposites (litsAt s (at + 4) n)) =
+      subst (Row s (of v) way (way + 2 * n) link) (append-nil (opposites (litsAt s (at + 4) n))) (o .row (way + 2 * n) [] (omega arith) stop) in
+      let row′ : Row s (of (set v (768 + 2 * c) link)) (clauseWay b c) (clauseWay b (c + 1)) link (opposites ls) =
+      subst (λ (ks : List Lit). Row s (of (set v (768 + 2 * c) link)) (clauseWay b c) (clauseWay b (c + 1)) link (opposites ks)) lits
+      (row-same s (of v) (of (set v (768 + 2 * c) link)) way (way + 2 * n) (clauseWay b c) (clauseWay b (c + 1)) (omega arith) (omega arith)
+      (λ j p q. set-there v (768 + 2 * c) link j (λ z. omega (arith, z, r .few, low))) row) in
+      record {
+        place = ap₂ (λ (p m : ℕ). p + 4 + 2 * m) (due .place) is ∙ k .next;
+        ways = last;
+        size = length-set v (768 + 2 * c) link ∙ size;
+        table =
+            record {
+              listed =
+                  subst₂ (Listed s (λ j. 0))
+                  (sym (set-there v (768 + 2 * c) link (2440 + 2 * c) (λ z. omega (arith, z, r .few)) ∙ o .stays (2440 + 2 * c) (λ p q. omega arith) ∙ pair-first w (2440 + 2 * c) x h fits)) lits l;
+              head =
+                  set-there v (768 + 2 * c) link (2440 + 2 * c + 1) (λ z. omega (arith, z, r .few)) ∙ o .stays (2440 + 2 * c + 1) (λ p q. omega arith)
+                  ∙ pair-second w (2440 + 2 * c) x h fits ∙ i ∙ ap (λ (p : ℕ). fieldAt s (p + 2)) (due .place) ∙ k .head;
+              broken =
+                  subst (λ (m : ℕ). Row s (of (set v (768 + 2 * c) link)) (clauseWay b c) (clauseWay b (c + 1)) m (opposites ls))
+                  (sym (set-here v (768 + 2 * c) link (omega (arith, size, due .long, r .few)))) row′;
+            };
+        stays =
+            λ j p q u.
+            set-there v (768 + 2 * c) link j p ∙ o .stays j (λ y z. u (omega arith) (omega arith)) ∙ pair-stays w (2440 + 2 * c) x h j q;
+      }
+
+-- ---- all clauses
+
+pub record ClausesDue (s w : List ℕ) (start count : ℕ) : Type 0 where
+  pub book : decode s ≡ accepted (bookOf s)
+  pub place : start ≡ clausePlace s 0
+  pub counted : count ≡ length (bookOf s .clauses)
+  pub long : 16384 ≤ length w
+
+-- the first c of them are laid
+pub record ClausesLaid (s w : List ℕ) (v : List ℕ) (c at way : ℕ) : Type 0 where
+  pub place : at ≡ clausePlace s c
+  pub ways : way ≡ clauseWay (bookOf s) c
+  pub most : c ≤ length (bookOf s .clauses)
+  pub size : length v ≡ length w
+  pub tables : (i : ℕ) → i < c → ClauseTable s (bookOf s) v i
+  pub stays : (j : ℕ) → (768 ≤ j → j < 1792 → ⊥) → (2440 ≤ j → j < 7560 → ⊥) → getD v j 0 ≡ getD w j 0
+
+pub table-same : (s : List ℕ) (b : Book) (w v : List ℕ) (i : ℕ) → ClauseTable s b w i → getD v (2440 + 2 * i) 0 ≡ getD w (2440 + 2 * i) 0 → getD v (2440 + 2 * i + 1) 0 ≡ getD w (2440 + 2 * i + 1) 0
+    → getD v (768 + 2 * i) 0 ≡ getD w (768 + 2 * i) 0 → ((j : ℕ) → clauseWay b i ≤ j → j < clauseWay b (i + 1) → getD v j 0 ≡ getD w j 0) → ClauseTable s b v i
+table-same s b w v i t p q r f = record {
+  listed = subst (λ (n : ℕ). Listed s (λ j. 0) n (getD (b .clauses) i noClause .body)) (sym p) (t .listed);
+  head = q ∙ t .head;
+  broken =
+      subst (λ (n : ℕ). Row s (of v) (clauseWay b i) (clauseWay b (i + 1)) n (opposites (getD (b .clauses) i noClause .body))) (sym r)
+      (row-same s (of w) (of v) (clauseWay b i) (clauseWay b (i + 1)) (clauseWay b i) (clauseWay b (i + 1)) (omega arith) (omega arith) f (t .broken));
+}
+
+module _ (s w : List ℕ) (start count : ℕ) (due : ClausesDue s w start count) where
+  pub clauses-start : ClausesLaid s w w 0 start (2440 + 2 * count)
+  clauses-start = record {
+    place = due .place;
+    ways = omega (arith, due .counted, sum-none bodyCount (bookOf s .clauses));
     most = omega arith;
     size = refl;
-    marks = λ j p q. refl;
-    places = λ j p q. refl;
-    later = refl;
-    linked =
-        λ b e p q.
-        subst (λ (n : ℕ). Above b (λ j. getD w j 0) count n (for b p count)) (sym (pre .unlinked p q))
-        (subst (λ (ks : List Clause). Above b (λ j. getD w j 0) count 0 (filter (λ (k : Clause). eqb (k .head) p) ks)) (sym (drop-of-length-le (b .clauses) {i = count} (omega (arith, many b e)))) stop);
+    tables = λ i h. absurd (omega arith);
+    stays = λ j p q. refl;
   }
 
-  pub linking-end : (v : List ℕ) (c : ℕ) → c ≡ 0 → Linking s w count v c → Chained s w count v
-  unfolding clausesFor
-  linking-end v c z l = record {
-    marks = l .marks;
-    places = l .places;
-    later = l .later;
-    chains = λ b e p q. above-chain (subst (λ (n : ℕ). Above b (λ j. getD v j 0) n (getD v (256 + p) 0) (for b p n)) z (l .linked b e p q));
+  pub clauses-due : (v : List ℕ) (c at way : ℕ) → c < count → ClausesLaid s w v c at way → ClauseDue s v c at way
+  clauses-due v c at way h l = record {
+    book = due .book;
+    less = omega (arith, due .counted);
+    place = l .place;
+    ways = l .ways;
+    long = omega (arith, l .size, due .long);
   }
 
-  -- clause c, the next to be linked
-  pub record Head (v : List ℕ) (c : ℕ) : Type 0 where
-    pub few : c ≤ 512
-    pub place : getD v (1024 + c) 0 ≡ clausePlace s (c - 1)
-    pub there : getD v (1024 + c) 0 + 4 ≤ length s
-    pub short : length s ≤ 8751
-    pub head : fieldAt s (getD v (1024 + c) 0 + 2) < 256
-
-  clause-head : (b : Book) (e : decode s ≡ accepted b) (i : ℕ) → i < length (b .clauses) → fieldAt s (clausePlace s i + 2) ≡ getD (b .clauses) i noClause .head
-  clause-head b e i h = stands-value (stands-rest (shown s b e .clause i h))
-
-  pub head-of : (v : List ℕ) (c : ℕ) → 1 ≤ c → Linking s w count v c → Head v c
-  head-of v c p l =
-      let b : Book = pre .b in
-      let n : count ≡ length (b .clauses) = many b (pre .book) in
-      let fine : Within limits b = within s b (pre .book) in
-      let few : c ≤ 512 = omega (arith, l .most, fine .clauses) in
-      let up : suc (c - 1) ≡ c = omega arith in
-      let less : c - 1 < length (b .clauses) = omega (arith, l .most) in
-      let at : getD v (1024 + c) 0 ≡ clausePlace s (c - 1) =
-      l .places (1024 + c) (omega arith) (omega arith)
-      ∙ ap (λ (j : ℕ). getD w (1024 + j) 0) (sym up) ∙ pre .places (c - 1) (omega (arith, l .most)) in
-      let body : Body s b (c - 1) = body-of s b (shown s b (pre .book)) (c - 1) less in
-      let is : fieldAt s (clausePlace s (c - 1) + 2) ≡ getD (b .clauses) (c - 1) noClause .head = clause-head b (pre .book) (c - 1) less in
-      let known : getD (b .clauses) (c - 1) noClause .head < b .atoms = fine .clausesFine (getD (b .clauses) (c - 1) noClause) (getD-∈ (b .clauses) (c - 1) noClause less) .known in
+  pub clauses-step : (v : List ℕ) (c at way : ℕ) → c < count → ClausesLaid s w v c at way → (v′ : List ℕ) (at′ way′ : ℕ) → ClauseLaid s v c v′ at′ way′ → ClausesLaid s w v′ (c + 1) at′ way′
+  clauses-step v c at way h l v′ at′ way′ n =
+      let b : Book = bookOf s in
+      let less : c < length (b .clauses) = omega (arith, due .counted) in
+      let k = clause-at s b (due .book) c less in
+      let few : length (b .clauses) ≤ 512 = k .few in
+      let room : clauseWay b (c + 1) ≤ 7560 = k .room in
       record {
-        few = few;
-        place = at;
-        there = subst (λ (j : ℕ). j + 4 ≤ length s) (sym at) (omega (arith, body .size, body .fits));
-        short = longest s b (pre .book);
-        head = subst (λ (j : ℕ). fieldAt s (j + 2) < 256) (sym at) (omega (arith, is, known, fine .atoms));
-      }
-
-  pub linking-step : (v : List ℕ) (c head : ℕ) → 1 ≤ c → Linking s w count v c → head ≡ fieldAt s (getD v (1024 + c) 0 + 2)
-      → Linking s w count (set (set v (512 + c) (getD v (256 + head) 0)) (256 + head) c) (c - 1)
-  linking-step v c head p l e =
-      let h : Head v c = head-of v c p l in
-      let low : head < 256 = subst (λ (j : ℕ). j < 256) (sym e) (h .head) in
-      record {
-        most = omega (arith, l .most);
-        size = length-set (set v (512 + c) (getD v (256 + head) 0)) (256 + head) c ∙ length-set v (512 + c) (getD v (256 + head) 0) ∙ l .size;
-        marks = λ j x y. other j (λ z. omega (arith, z)) (λ z. omega (arith, z)) ∙ l .marks j x y;
-        places = λ j x y. other j (λ z. omega (arith, z, h .few)) (λ z. omega (arith, z, low)) ∙ l .places j x y;
-        later =
-            drop-set-lt 16384 (set v (512 + c) (getD v (256 + head) 0)) (256 + head) c (omega (arith, low))
-            ∙ drop-set-lt 16384 v (512 + c) (getD v (256 + head) 0) (omega (arith, h .few)) ∙ l .later;
-        linked = λ b i q y. linked b i q y (h .few) (h .place) low;
+        place = n .place;
+        ways = n .ways;
+        most = omega arith;
+        size = n .size ∙ l .size;
+        tables = λ i q. go i q (eqb i c) refl;
+        stays = λ j p q. n .stays j (λ z. p (omega arith) (omega arith)) (λ y z. q (omega arith) (omega arith)) (λ y z. q (omega arith) (omega arith)) ∙ l .stays j p q;
       }
     where
-      new : List ℕ
-      new = set (set v (512 + c) (getD v (256 + head) 0)) (256 + head) c
-
-      other : (j : ℕ) → (j ≡ 512 + c → ⊥) → (j ≡ 256 + head → ⊥) → getD (set (set v (512 + c) (getD v (256 + head) 0)) (256 + head) c) j 0 ≡ getD v j 0
-      other j x y =
-          getD-set-other (set v (512 + c) (getD v (256 + head) 0)) (256 + head) j c 0 y
-          ∙ getD-set-other v (512 + c) j (getD v (256 + head) 0) 0 x
-
-      wide : 16384 ≤ length v
-      wide = omega (arith, l .size, pre .long)
-
-      linked : (b : Book) → decode s ≡ accepted b → (q : ℕ) → q < 256 → c ≤ 512 → getD v (1024 + c) 0 ≡ clausePlace s (c - 1) → head < 256
-          → Above b (λ j. getD (set (set v (512 + c) (getD v (256 + head) 0)) (256 + head) c) j 0) (c - 1)
-          (getD (set (set v (512 + c) (getD v (256 + head) 0)) (256 + head) c) (256 + q) 0) (for b q (c - 1))
-      linked b i q y few place low =
-          let n : count ≡ length (b .clauses) = many b i in
-          let less : c - 1 < length (b .clauses) = omega (arith, l .most) in
-          let all : length (b .clauses) ≤ 512 = within s b i .clauses in
-          let up : suc (c - 1) ≡ c = omega arith in
-          let is : head ≡ getD (b .clauses) (c - 1) noClause .head = e ∙ ap (λ (j : ℕ). fieldAt s (j + 2)) place ∙ clause-head b i (c - 1) less in
-          let rest : drop (c - 1) (b .clauses) ≡ getD (b .clauses) (c - 1) noClause ∷ drop c (b .clauses) =
-          drop-cons (b .clauses) (c - 1) noClause less ∙ ap (λ (j : ℕ). getD (b .clauses) (c - 1) noClause ∷ drop j (b .clauses)) up in
-          let olds : Above b (λ j. getD new j 0) (c - 1) (getD v (256 + q) 0) (for b q c) =
-          above-same (c - 1) (omega arith) (λ j x z. other j (λ o. omega (arith, o, x)) (λ o. omega (arith, o, x, low))) all (l .linked b i q y) in
-          subst (λ (ks : List Clause). Above b (λ j. getD new j 0) (c - 1) (getD new (256 + q) 0) (filter (λ (k : Clause). eqb (k .head) q) ks)) (sym rest)
-          (go b q y (c - 1) up less olds (eqb (getD (b .clauses) (c - 1) noClause .head) q) refl is low few)
-        where
-          go : (b : Book) (q : ℕ) → q < 256 → (m : ℕ) → suc m ≡ c → m < length (b .clauses) → Above b (λ j. getD new j 0) m (getD v (256 + q) 0) (for b q c)
-              → (t : Bool) → eqb (getD (b .clauses) m noClause .head) q ≡ t → head ≡ getD (b .clauses) m noClause .head → head < 256 → c ≤ 512
-              → Above b (λ j. getD new j 0) m (getD new (256 + q) 0) (put t (getD (b .clauses) m noClause) (for b q c))
-          go b q y m up less olds true t is low few =
-              let same : head ≡ q = is ∙ eqb-true (getD (b .clauses) m noClause .head) q t in
-              let first : getD new (256 + q) 0 ≡ suc m =
-              ap (λ (j : ℕ). getD new (256 + j) 0) (sym same)
-              ∙ getD-set-same (set v (512 + c) (getD v (256 + head) 0)) (256 + head) c 0 (omega (arith, wide, length-set v (512 + c) (getD v (256 + head) 0)))
-              ∙ sym up in
-              let next : getD new (512 + suc m) 0 ≡ getD v (256 + q) 0 =
-              ap (λ (j : ℕ). getD new (512 + j) 0) up
-              ∙ getD-set-other (set v (512 + c) (getD v (256 + head) 0)) (256 + head) (512 + c) c 0 (λ o. omega (arith, o, low))
-              ∙ getD-set-same v (512 + c) (getD v (256 + head) 0) 0 (omega (arith, wide))
-              ∙ ap (λ (j : ℕ). getD v (256 + j) 0) same in
-              subst (λ (j : ℕ). Above b (λ i. getD new i 0) m j (getD (b .clauses) m noClause ∷ for b q c)) (sym first)
-              (link m (omega arith) less (subst (λ (j : ℕ). Above b (λ i. getD new i 0) m j (for b q c)) (sym next) olds))
-          go b q y m up less olds false t is low few =
-              let differs : head ≡ q → ⊥ = λ o. eqb-false (getD (b .clauses) m noClause .head) q t (sym is ∙ o) in
-              subst (λ (j : ℕ). Above b (λ i. getD new i 0) m j (for b q c))
-              (sym (other (256 + q) (λ o. omega (arith, o, y, up)) (λ o. differs (omega (arith, o))))) olds
-
--- a record on the way
-pub record-there : (s : List ℕ) (start count : ℕ) → Records s start count → (i at : ℕ) → i < count → at ≡ skip s start i → (at + 2 + fieldAt s at ≤ length s) × (length s ≤ 8751)
-record-there s start count r i at h e = (subst (λ (n : ℕ). n + 2 + fieldAt s n ≤ length s) (sym e) (r .there i h), r .short)
+      go : (i : ℕ) → i < c + 1 → (t : Bool) → eqb i c ≡ t → ClauseTable s (bookOf s) v′ i
+      go i q true e = subst (ClauseTable s (bookOf s) v′) (sym (eqb-true i c e)) (n .table)
+      go i q false e =
+          let d : i ≡ c → ⊥ = eqb-false i c e in
+          let less : i < c = omega (arith, d) in
+          let most : c ≤ length (bookOf s .clauses) = l .most in
+          let few : length (bookOf s .clauses) ≤ 512 = within s (bookOf s) (due .book) .clauses in
+          let rises : sum bodyCount (take (i + 1) (bookOf s .clauses)) ≤ sum bodyCount (take c (bookOf s .clauses)) = sum-rises bodyCount (bookOf s .clauses) (i + 1) c (omega arith) in
+          table-same s (bookOf s) v v′ i (l .tables i less)
+          (n .stays (2440 + 2 * i) (λ z. omega (arith, z)) (λ y z. omega arith) (λ y z. omega arith))
+          (n .stays (2440 + 2 * i + 1) (λ z. omega (arith, z)) (λ y z. omega arith) (λ y z. omega arith))
+          (n .stays (768 + 2 * i) (λ z. omega (arith, z)) (λ y z. omega arith) (λ y z. omega arith))
+          (λ j x y. n .stays j (λ z. omega arith) (λ z o. omega arith) (λ z o. omega arith))

@@ -1,23 +1,27 @@
 -- The whole listing, as the code puts it together.
 -- Assumes nothing.
-use Prim.Native.Nat.{ℕ, _+_, _-_, _≤_}
+use Prim.Native.Nat.{ℕ, zero, suc, _+_, _-_, _≤_}
 use native.Mathlib.Omega.{arith}
 use native.Mathlib.Nat.{sub-zero}
-use mathlib.Core.Path.{_≡_, refl, sym, ap, ap₂, _∙_}
+use mathlib.Core.Path.{_≡_, refl, sym, ap, ap₂, subst, _∙_}
+use mathlib.Core.Bool.{Bool, true, false}
 use mathlib.Core.List.{List, [], _∷_, _++_}
 use lib.ListN.{length, take, drop, length-append, length-drop}
 use lib.Seq.{take-at, length-take-le}
-use Rattle.book.specs.Walk.{fieldAt}
+use lib.Dec.{ltb}
+use Rattle.base.specs.Bools.{choose}
+use Rattle.book.specs.Book.{Book}
 use Rattle.book.specs.Decode.{Decoded, accepted, refused, decode}
 use Rattle.book.specs.Reading.{readingOf, Reads}
 use Rattle.book.specs.declared.Reading.{Reading}
 use Rattle.book.specs.declared.Reading.the-variants.{Accepted, Refused as Turned}
 use Rattle.sets.specs.Kept.{zeros, sort, sort-length}
-use Rattle.searching.specs.Rules.{root, run, run-from, finished}
+use Rattle.searching.specs.Rules.{Node, root, children, noting, Outcome, finished, used-up, no-room, run, run-from}
 use Rattle.lister.specs.declared.Listing.the-variants.{Listed, Refused}
-use Rattle.lister.specs.declared.walk.Run.{Run}
+use Rattle.lister.specs.declared.moves.Run.{Run}
 use Rattle.lister.specs.Steps.{Searching, Ending, all-visited, out-of-budget, out-of-room, Stopped}
-use Rattle.lister.specs.Start.{IsBook, Started}
+use Rattle.lister.specs.Tables.{IsBook}
+use Rattle.lister.specs.Start.{Started}
 use Rattle.lister.specs.PromiseLaws.{Searched, searched-all, searched-short, searched-full}
 
 -- ---- what the reader's answer says
@@ -38,13 +42,11 @@ read-refused s r n h e = go (decode s) refl (sym (h .answer) ∙ e)
 
 -- ---- the search begins at the root
 
-pub begins : (s : List ℕ) (budget : ℕ) (sets w v : List ℕ) (r : Run) → IsBook s → Started s w v r → length sets ≤ 1024 → Searching s budget (fieldAt s 7) sets v r
+pub begins : (s : List ℕ) (budget : ℕ) (sets w v : List ℕ) (r : Run) → IsBook s → Started s w v r → length sets ≤ 1024 → Searching s budget sets v r
 begins s budget sets w v r i h n = record {
   b = i .b;
   all = root (i .b) ∷ [];
   holds = h .holds (i .b) (i .book);
-  state = h .state;
-  due = omega (arith, h .due);
   nodes = omega (arith, h .nodes);
   count = omega (arith, h .count);
   entries = n;
@@ -56,6 +58,38 @@ begins s budget sets w v r i h n = record {
     start n c p q = rw (p, q, sub-zero)
 
 -- ---- its three ends
+
+-- no search visits more nodes than its budget
+abbrev nodesOf : Outcome → ℕ
+nodesOf (finished kept n) = n
+nodesOf (used-up n) = n
+nodesOf (no-room n) = n
+
+run-nodes : (b : Book) (room k : ℕ) (xs : List Node) (kept : List ℕ) (n : ℕ) → nodesOf (run b room k xs kept n) ≤ n + k
+unfolding run
+run-nodes b room zero [] kept n = omega arith
+run-nodes b room zero (x ∷ xs) kept n = omega arith
+run-nodes b room (suc k) [] kept n = omega arith
+run-nodes b room (suc k) (x ∷ xs) kept n =
+    let now = noting b (x .agenda) (x .sheet) kept in
+    go (ltb room (length now)) (run b room k (children b x ++ xs) now (suc n)) (run-nodes b room k (children b x ++ xs) now (suc n))
+  where
+    go : (t : Bool) (later : Outcome) → nodesOf later ≤ suc n + k → nodesOf (choose t (no-room (suc n)) later) ≤ n + suc k
+    go true later h = omega arith
+    go false later h = omega arith
+
+pub few-nodes : (image : List ℕ) (budget : ℕ) (kept : List ℕ) (r : Run) → Stopped image budget kept r → r .nodes ≤ budget
+few-nodes image budget kept r h = go (h .ending)
+  where
+    at-most : (o : Outcome) → run-from (h .b) (length kept) budget (root (h .b)) ≡ o → nodesOf o ≤ budget
+    at-most o e =
+        let most = run-nodes (h .b) (length kept) budget (root (h .b) ∷ []) [] 0 in
+        subst (λ (x : Outcome). nodesOf x ≤ budget) e (omega (arith, most))
+
+    go : Ending (h .b) budget kept r → r .nodes ≤ budget
+    go (all-visited i c o) = at-most _ o
+    go (out-of-budget i o) = at-most _ o
+    go (out-of-room i o) = at-most _ o
 
 module _ (image : List ℕ) (budget : ℕ) (old work kept v : List ℕ) (r : Run) (h : Stopped image budget kept r) (same : length kept ≡ length old) (later : drop 16384 v ≡ drop 16384 work) where
   record Visited-all : Type 0 where

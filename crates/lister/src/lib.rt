@@ -1,13 +1,12 @@
 // The lister: document 01's search rules, run on the image as lent. The agenda, the marks and the frames of the search live in
 // the lent work area, the kept sets in the front of the lent list.
 pub mod area;
-pub mod frames;
+pub mod moves;
 pub mod search;
 pub mod start;
-pub mod walk;
+pub mod tables;
 
 use book::Reading;
-use book::fields::field_at;
 ghost use lib.ListN.{length};
 ghost use Rattle.lister.specs.Promise.{Lists};
 ghost use Rattle.lister.specs.PromiseLaws.{Admitted, Early};
@@ -66,19 +65,19 @@ pub fn list_book(image: &[u8], budget: u32, sets: &mut [u64], work: &mut [u32]) 
     ensures { λ r. ⌜ Lists (now (image .entry)) budget (now (sets .entry)) (now (work .entry)) r (now (sets .exit)) (now (work .exit)) ⌝ }
 {
     let root = start::start(image, work);
-    let abducibles = field_at(image, 7);
-    let r = search::walk_on(image, budget, abducibles, sets, work, root);
+    let r = search::walk_on(image, budget as usize, sets, work, root);
     area::wipe(work, SPACE);
     let state = r.state;
-    let count = r.count as usize;
+    let count = r.count;
+    let nodes = r.nodes as u32;
     if state == 1 {
         sets::order::order(sets, count);
         sets::lists::clear(sets, count);
-        return Listing::Listed(r.count, r.nodes);
+        return Listing::Listed(count as u32, nodes);
     }
     sets::lists::clear(sets, 0);
     if state == 30 {
-        return Listing::Refused(30, r.nodes);
+        return Listing::Refused(30, nodes);
     }
-    Listing::Refused(31, r.nodes)
+    Listing::Refused(31, nodes)
 }

@@ -1,73 +1,59 @@
-// The start of a search: the work area is made ready, and the root is in hand.
+// The start of a search: the work area is made ready, and the root's agenda is in hand.
 use super::area;
-use super::frames;
-use super::frames::Cell;
-use super::walk::Run;
+use super::moves::Run;
+use super::tables;
+use super::tables::Laid;
 use book::fields::field_at;
 ghost use mathlib.Core.Path.{_≡_};
-ghost use Prim.Native.Nat.{_+_, _*_, _≤_};
+ghost use Prim.Native.Nat.{_≤_};
 ghost use lib.ListN.{length};
-ghost use Rattle.lister.specs.Start.{rulesCell, goalCell, rootRun, grounded, IsBook, Started};
+ghost use Rattle.book.specs.Walk.{fieldAt};
+ghost use Rattle.lister.specs.Tables.{IsBook};
+ghost use Rattle.lister.specs.Start.{Ready, AtomsLaid, Filled, rootRun, Started};
 
-// All constraints.
-fn rules_cell(many: u32) -> Cell
-    ensures { λ c. ⌜ c ≡ rulesCell many ⌝ }
+// No mark, and the literals of each atom: an abducible joins the set; a defined atom has no clause yet.
+fn lay_atoms(image: &[u8], work: &mut [u32])
+    requires { ⌜ IsBook (now image) × (16384 ≤ length (now work)) ⌝ }
+    ensures { λ _. ⌜ AtomsLaid (now (image .entry)) (now (work .entry)) (now (work .exit)) ⌝ }
 {
-    if many == 0 {
-        return Cell {
-            kind: 0,
-            from: 0,
-            to: 0,
-            link: 0,
-        };
-    }
-    Cell {
-        kind: 4,
-        from: 0,
-        to: many,
-        link: 1,
-    }
+    let atoms = field_at(image, 5) as usize;
+    let abducibles = field_at(image, 7) as usize;
+    area::wipe(work, 256);
+    area::lay_literals(work, 0, abducibles, 2);
+    area::lay_literals(work, abducibles, atoms, 0);
 }
 
-// The goal, and then the constraints.
-fn goal_cell(goals: u32, rules: Cell) -> Cell
-    requires { ⌜ goals ≤ 16 ⌝ }
-    ensures { λ c. ⌜ c ≡ goalCell goals rules ⌝ }
+// The tables of clauses and constraints.
+fn lay_tables(image: &[u8], work: &mut [u32], goals: usize)
+    requires { ⌜ Ready (now image) (now work) × (goals ≡ fieldAt (now image) 9) ⌝ }
+    ensures { λ _. ⌜ Filled (now (image .entry)) (now (work .entry)) (now (work .exit)) ⌝ }
 {
-    if goals == 0 {
-        return rules;
-    }
-    Cell {
-        kind: 1,
-        from: 11,
-        to: 11 + 2 * goals,
-        link: 2,
-    }
-}
-
-// Two frames with nothing to try, the end of every agenda and the constraints, and the root over them.
-fn root(work: &mut [u32], goals: u32, many: u32) -> Run
-    requires { ⌜ (goals ≤ 16) × (16384 ≤ length (now work)) ⌝ }
-    ensures { λ r. ⌜ (now (work .exit) ≡ grounded (now (work .entry)) many) × (r ≡ rootRun (goalCell goals (rulesCell many))) ⌝ }
-{
-    let rules = rules_cell(many);
-    let first = goal_cell(goals, rules);
-    let none = Cell {
-        kind: 0,
-        from: 0,
-        to: 0,
-        link: 0,
+    let clauses = 11 + 2 * goals;
+    let count = field_at(image, clauses) as usize;
+    let place = tables::lay_clauses(image, work, clauses + 2, count);
+    tables::link_clauses(work, count);
+    let at = place.at;
+    let many = field_at(image, at) as usize;
+    let behind = Laid {
+        at: at + 2,
+        way: place.way,
     };
-    frames::push(work, 0, none, 0, 0, 0, 0);
-    frames::push(work, 1, rules, 0, 0, 0, 0);
+    tables::lay_rules(image, work, behind, many);
+}
+
+// The root: the goal, and then the constraints.
+fn root(goals: usize) -> Run
+    requires { ⌜ goals ≤ 16 ⌝ }
+    ensures { λ r. ⌜ r ≡ rootRun goals ⌝ }
+{
     Run {
-        state: 0,
-        due: 1,
-        kind: first.kind,
-        from: first.from,
-        to: first.to,
-        link: first.link,
-        top: 2,
+        state: 2,
+        task: 0,
+        at: 11,
+        end: 11 + 2 * goals,
+        link: 2050,
+        marked: 7560,
+        top: 8584,
         nodes: 0,
         count: 0,
         set: 0,
@@ -78,15 +64,8 @@ pub fn start(image: &[u8], work: &mut [u32]) -> Run
     requires { ⌜ IsBook (now image) × (16384 ≤ length (now work)) ⌝ }
     ensures { λ r. ⌜ Started (now (image .entry)) (now (work .entry)) (now (work .exit)) r ⌝ }
 {
-    area::wipe(work, 512);
-    let goals = field_at(image, 9);
-    let clauses = 11 + 2 * goals;
-    let at = clauses as usize;
-    let count = field_at(image, at);
-    let rules = area::lay_places(image, work, 1025, clauses + 2, count);
-    area::link_clauses(image, work, count);
-    let place = rules as usize;
-    let many = field_at(image, place);
-    area::lay_places(image, work, 1537, rules + 2, many);
-    root(work, goals, many)
+    let goals = field_at(image, 9) as usize;
+    lay_atoms(image, work);
+    lay_tables(image, work, goals);
+    root(goals)
 }

@@ -5,7 +5,8 @@ use mathlib.Core.List.{List, _++_}
 use native.Mathlib.Omega.{arith}
 use lib.ListN.{length, set, drop, length-set}
 use Rattle.sets.specs.Kept.{zeros}
-use Rattle.lister.specs.Tables.{wiping}
+use Rattle.lister.specs.Lay.{wiping}
+use borrow.Author.Needs.{needs}
 use Rattle.lister.proofs.area.wipe.Statement.{statement}
 use Rattle.lister.proofs.area.wipe.Tie as tie
 
@@ -17,18 +18,6 @@ abbrev μ-loop : tie.MeasureT-loop
 
 loop-holds : tie.Need-loop-holds Inv-loop μ-loop
 loop-holds c = (omega arith, refl, refl)
-
-mul-work : tie.Need-mul-work Inv-loop μ-loop
-mul-work c = omega arith
-
-slice-write-work : tie.Need-slice-write-work Inv-loop μ-loop
-slice-write-work c = omega arith
-
-add-i : tie.Need-add-i Inv-loop μ-loop
-add-i c = omega arith
-
-loop-less : tie.Need-loop-less Inv-loop μ-loop
-loop-less c = omega arith
 
 loop-again : tie.Need-loop-again Inv-loop μ-loop
 loop-again c =
@@ -52,10 +41,10 @@ wipe-spec =
     Inv-loop
     μ-loop
     loop-holds
-    mul-work
-    slice-write-work
-    add-i
-    loop-less
+    (λ c. search needs)
+    (λ c. search needs)
+    (λ c. search needs)
+    (λ c. search needs)
     loop-again
     same-length
     returns)
