@@ -171,11 +171,11 @@ fn choose(work: &mut [u32], r: Run) -> Run
     ensures { λ q. ⌜ Moves (now (work .entry)) r (now (work .exit)) q 3 ⌝ }
 {
     let way = r.task;
-    let more = word(work, way + 1);
-    if more == 0 {
+    let others = word(work, way + 1);
+    if others == 0 {
         return given(r, LIST, word(work, way));
     }
-    let q = push(work, r, more);
+    let q = push(work, r, others);
     given(q, LIST, word(work, way))
 }
 
@@ -313,7 +313,8 @@ fn note(sets: &mut [u64], r: Run) -> Run
     requires { ⌜ (r .count ≤ length (now sets)) × (length (now sets) ≤ 1024) ⌝ }
     ensures { λ q. ⌜ Noted (now (sets .entry)) r (now (sets .exit)) q ⌝ }
 {
-    let count = sets::kept::insert(sets, r.count, r.set);
+    let held = r.count;
+    let count = sets::kept::insert(sets, held, r.set);
     if sets.len() < count {
         return turned(r, 31);
     }
