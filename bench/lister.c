@@ -14,17 +14,6 @@
 
 #include <string.h>
 
-enum {
-    ATOMS = 256,
-    GOAL_LITERALS = 16,
-    CLAUSES = 512,
-    BODY_LITERALS = 1024,
-    CONSTRAINTS = 128,
-    CONSTRAINT_LITERALS = 1024,
-    SETS = 1024,
-    MOST_BUDGET = 1000000,
-};
-
 /* A task. A want is its literal; behind wants, breaks and constraints come two that end a run. */
 enum {
     BREAK = 2 * ATOMS,              /* break clause c is BREAK + c */
@@ -111,11 +100,6 @@ struct reading {
     size_t at;           /* the next field */
     uint32_t runs, ways; /* the next free places */
 };
-
-static inline uint32_t field_at(const uint8_t *image, size_t at)
-{
-    return (uint32_t)image[at] << 8 | image[at + 1];
-}
 
 static inline uint32_t next_field(struct reading *r)
 {

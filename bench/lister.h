@@ -8,6 +8,24 @@
 /* How many numbers of the lent work area a search may use; it leaves them 0. */
 enum { WORK_NUMBERS = 16384 };
 
+/* The specification's limits. */
+enum {
+    ATOMS = 256,
+    ABDUCIBLES = 64,
+    GOAL_LITERALS = 16,
+    CLAUSES = 512,
+    BODY_LITERALS = 1024,
+    CONSTRAINTS = 128,
+    CONSTRAINT_LITERALS = 1024,
+    SETS = 1024,
+    MOST_BUDGET = 1000000,
+};
+
+static inline uint32_t field_at(const uint8_t *image, size_t at)
+{
+    return (uint32_t)image[at] << 8 | image[at + 1];
+}
+
 /* The kinds of answer, and the refusals by what is lent or met. */
 enum { LISTED = 0, REFUSED = 1 };
 enum { LONG_LIST = 20, SHORT_WORK = 21, LARGE_BUDGET = 22, BUDGET_USED_UP = 30, NO_ROOM = 31 };

@@ -3,16 +3,7 @@
 
 #include "lister.h"
 
-enum {
-    MOST_ATOMS = 256,
-    MOST_ABDUCIBLES = 64,
-    MOST_GOAL_LITERALS = 16,
-    MOST_CLAUSES = 512,
-    MOST_BODY_LITERALS = 1024,
-    MOST_CONSTRAINTS = 128,
-    MOST_CONSTRAINT_LITERALS = 1024,
-    HEADER = 5,
-};
+enum { HEADER = 5 };
 
 struct walk {
     const uint8_t *image;
@@ -21,11 +12,6 @@ struct walk {
     size_t clauses_at; /* the first clause's record */
     uint32_t clauses;
 };
-
-static inline uint32_t field_at(const uint8_t *image, size_t at)
-{
-    return (uint32_t)image[at] << 8 | image[at + 1];
-}
 
 static inline uint32_t next_field(struct walk *w)
 {
@@ -52,17 +38,17 @@ static uint32_t front(struct walk *w)
     if (is_missing(w))
         return 4;
     w->atoms = next_field(w);
-    if (w->atoms < 1 || w->atoms > MOST_ATOMS)
+    if (w->atoms < 1 || w->atoms > ATOMS)
         return 5;
     if (is_missing(w))
         return 4;
     w->abducibles = next_field(w);
-    if (w->abducibles > MOST_ABDUCIBLES || w->abducibles > w->atoms)
+    if (w->abducibles > ABDUCIBLES || w->abducibles > w->atoms)
         return 5;
     if (is_missing(w))
         return 4;
     uint32_t count = next_field(w);
-    if (count > MOST_GOAL_LITERALS)
+    if (count > GOAL_LITERALS)
         return 5;
     for (uint32_t i = 0; i < count; i++) {
         if (is_missing(w))
@@ -84,7 +70,7 @@ static uint32_t clauses(struct walk *w)
     if (is_missing(w))
         return 4;
     w->clauses = next_field(w);
-    if (w->clauses > MOST_CLAUSES)
+    if (w->clauses > CLAUSES)
         return 5;
     w->clauses_at = w->at;
     uint32_t total = 0;
@@ -96,7 +82,7 @@ static uint32_t clauses(struct walk *w)
             return 4;
         uint32_t count = size / 2 - 1;
         total += count;
-        if (total > MOST_BODY_LITERALS)
+        if (total > BODY_LITERALS)
             return 5;
         uint32_t head = next_field(w);
         if (head >= w->atoms)
@@ -124,7 +110,7 @@ static uint32_t constraint(struct walk *w, uint32_t *total)
         if (2 * count > end - w->at)
             return 4;
         *total += count;
-        if (*total > MOST_CONSTRAINT_LITERALS)
+        if (*total > CONSTRAINT_LITERALS)
             return 5;
         if (literals(w, count) != 0)
             return 6;
@@ -137,7 +123,7 @@ static uint32_t constraints(struct walk *w)
     if (is_missing(w))
         return 4;
     uint32_t count = next_field(w);
-    if (count > MOST_CONSTRAINTS)
+    if (count > CONSTRAINTS)
         return 5;
     uint32_t total = 0;
     for (uint32_t k = 0; k < count; k++) {
@@ -151,8 +137,8 @@ static uint32_t constraints(struct walk *w)
 /* An atom settles once all atoms in the bodies of its clauses have. Mentions of atoms in bodies are numbered from 1. */
 static int has_loop(const struct walk *w)
 {
-    uint8_t head_of[MOST_BODY_LITERALS + 1], settled[MOST_ATOMS];
-    uint16_t earlier[MOST_BODY_LITERALS + 1], latest[MOST_ATOMS], waits[MOST_ATOMS];
+    uint8_t head_of[BODY_LITERALS + 1], settled[ATOMS];
+    uint16_t earlier[BODY_LITERALS + 1], latest[ATOMS], waits[ATOMS];
     uint32_t mentions = 0, known = 0;
     for (uint32_t p = 0; p < w->atoms; p++)
         latest[p] = waits[p] = 0;

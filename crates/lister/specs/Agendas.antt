@@ -11,7 +11,7 @@ use Rattle.book.specs.Book.{Lit, Book}
 use Rattle.book.specs.Encode.{longest}
 use Rattle.book.specs.Accepted.{within}
 use Rattle.searching.specs.Rules.{Task, Node}
-use Rattle.lister.specs.declared.moves.Run.{Run}
+use Rattle.lister.specs.declared.run.Run.{Run}
 use Rattle.lister.specs.Machine.{Same, record-at, Ground, Area, Trail, entry, Own, lits, records, Tail, rules, laid, Agenda, linked, more, Short, Free, older, short, empty, Held}
 use Rattle.lister.specs.Memory.{trail-same, tail-more, agenda-more, tail-same, held-same}
 use Rattle.lister.specs.Sheet.{area-same}

@@ -15,7 +15,7 @@ use Rattle.book.specs.Shown.{litsAt}
 use Rattle.book.specs.Encode.{longest}
 use Rattle.book.specs.Accepted.{within}
 use Rattle.searching.specs.Rules.{Task, want, pick, keep, Node}
-use Rattle.lister.specs.declared.moves.Run.{Run}
+use Rattle.lister.specs.declared.run.Run.{Run}
 use Rattle.lister.specs.Machine.{Chain, Records, end, record-at, Ground, Area, entry, Own, lits, records, Tail, rules, laid, Agenda, linked, more, Short, Free, short, empty, Fine, Hand, literal, last, agenda, failed, way, list, Holds}
 use Rattle.lister.specs.Machine
 use Rattle.lister.specs.Memory.{tail-more}

@@ -13,7 +13,7 @@ use Rattle.book.specs.Shown.{litsAt}
 use Rattle.judging.specs.Meaning.{clausesFor}
 use Rattle.searching.specs.Rules.{Task, want, pick, break, keep, Node, on, assumed}
 use Rattle.searching.specs.Bounds.{frames, Named}
-use Rattle.lister.specs.declared.moves.Run.{Run}
+use Rattle.lister.specs.declared.run.Run.{Run}
 
 -- ---- the tables, which the search does not write: numbers 256 to 7,559
 

@@ -5,7 +5,7 @@ use mathlib.Core.Path.{_≡_, refl, sym, ap, subst}
 use mathlib.Core.List.{List, _∷_}
 use Rattle.book.specs.Book.{Book}
 use Rattle.searching.specs.Rules.{Node}
-use Rattle.lister.specs.declared.moves.Run.{Run}
+use Rattle.lister.specs.declared.run.Run.{Run}
 use Rattle.lister.specs.Machine.{Hand, literal, record-at, last, agenda, failed, way, list, Holds}
 use Rattle.lister.specs.Pieces.{counting}
 use Rattle.lister.specs.Enter.{with-hand}

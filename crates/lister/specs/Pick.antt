@@ -13,7 +13,7 @@ use Rattle.sets.specs.Kept
 use Rattle.book.specs.Book.{Lit, Book}
 use Rattle.book.specs.Accepted.{orderly}
 use Rattle.searching.specs.Rules.{Task, pick, Node, assumed, children}
-use Rattle.lister.specs.declared.moves.Run.{Run}
+use Rattle.lister.specs.declared.run.Run.{Run}
 use Rattle.lister.specs.Machine.{Chain, Free, older, short, empty, Fine, byWays, Hand, literal, record-at, last, agenda, failed, way, list, Holds}
 use Rattle.lister.specs.Tasks.{children-picks, fine-children, held-pick}
 use Rattle.lister.specs.Pieces.{turning, giving, noting}

@@ -5,7 +5,7 @@ use mathlib.Core.Path.{_≡_}
 use mathlib.Core.List.{List, [], _∷_}
 use lib.ListN.{length, getD, set}
 use lib.Seq.{sets}
-use Rattle.lister.specs.declared.moves.Run.{Run}
+use Rattle.lister.specs.declared.run.Run.{Run}
 
 abbrev pub turning : Run → ℕ → Run
 turning r n =

@@ -18,7 +18,7 @@ use Rattle.lister.specs.declared.Asked.{Asked}
 use Rattle.lister.specs.declared.Asked.the-variants.{Turned, Search}
 use Rattle.lister.specs.declared.Listing.{Listing}
 use Rattle.lister.specs.declared.Listing.the-variants.{Listed, Refused}
-use Rattle.lister.specs.declared.moves.Run.{Run}
+use Rattle.lister.specs.declared.run.Run.{Run}
 use Rattle.lister.specs.Tables.{IsBook}
 use Rattle.lister.specs.Promise.{Result, turned, searched, byBook, resultOf, answerOf, setsOf, workOf, Explained, Lists}
 

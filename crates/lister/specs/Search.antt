@@ -13,7 +13,7 @@ use Rattle.sets.specs.Kept.{insert}
 use Rattle.book.specs.Decode.{litOf}
 use Rattle.searching.specs.Rules.{Task, want, pick, Node, root, children, after, assumed, finished, no-room, run, run-from}
 use Rattle.searching.specs.Rules
-use Rattle.lister.specs.declared.moves.Run.{Run}
+use Rattle.lister.specs.declared.run.Run.{Run}
 use Rattle.lister.specs.Machine.{Hand, literal, record-at, last, agenda, failed, way, list, Holds}
 use Rattle.lister.specs.Pieces.{turning, counting, noting}
 use Rattle.lister.specs.Node.{counting-holds}

@@ -28,7 +28,7 @@ use Rattle.sets.specs.Kept.{zeros}
 use Rattle.judging.specs.Meaning.{clausesFor}
 use Rattle.searching.specs.Rules.{Task, want, break, keep, opposites, root, on, gather, assumed}
 use Rattle.searching.specs.Bounds.{root-frames, root-named}
-use Rattle.lister.specs.declared.moves.Run.{Run}
+use Rattle.lister.specs.declared.run.Run.{Run}
 use Rattle.lister.specs.Machine.{Listed, Chain, Records, Denied, undefined, broken, Ground, Area, Trail, Own, Tail, Agenda, bottom, Fine, Hand, Holds}
 use Rattle.lister.specs.Lay.{of, listed-same, row-same, row-chain, LaidLiterals, wiped-zero, wiped-length, wiped-stays, behind-stays}
 use Rattle.lister.specs.Links.{headIn, next, shut, Unlinked, Linked}

@@ -9,7 +9,7 @@ use Rattle.book.specs.Decode.{decode, accepted}
 use Rattle.sets.specs.Kept.{insert}
 use Rattle.searching.specs.Rules.{Node, root, assumed, children, finished, no-room, run, run-from}
 use Rattle.searching.specs.Rules
-use Rattle.lister.specs.declared.moves.Run.{Run}
+use Rattle.lister.specs.declared.run.Run.{Run}
 use Rattle.lister.specs.Machine.{Holds}
 use Rattle.lister.specs.Pieces.{turning, counting, noting}
 

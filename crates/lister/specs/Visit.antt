@@ -18,7 +18,7 @@ use Rattle.book.specs.Decode.{litOf}
 use Rattle.book.specs.Accepted.{within, orderly}
 use Rattle.judging.specs.Meaning.{clausesFor}
 use Rattle.searching.specs.Rules.{opposite, Task, want, break, Node, on, assumed, children}
-use Rattle.lister.specs.declared.moves.Run.{Run}
+use Rattle.lister.specs.declared.run.Run.{Run}
 use Rattle.lister.specs.Machine.{Chain, Denied, undefined, broken, Ground, Area, Trail, marks, entry, records, Tail, Agenda, more, Short, older, Fine, byWays, Held, under, Hand, literal, record-at, last, agenda, failed, way, list, Holds}
 use Rattle.lister.specs.Memory.{trail-same, agenda-more, agenda-same, held-used, held-same}
 use Rattle.lister.specs.Sheet.{parity, lit-even, lit-odd, Unmarked, free-lit, reads-free, reads-so, reads-refused, area-join, area-same, assumed-defined, assumed-negated, assumed-joined}

@@ -7,7 +7,7 @@ use mathlib.Core.List.{List, _∷_, _++_}
 use lib.ListN.{getD, set, drop}
 use Rattle.book.specs.Book.{Book}
 use Rattle.searching.specs.Rules.{Node, children}
-use Rattle.lister.specs.declared.moves.Run.{Run}
+use Rattle.lister.specs.declared.run.Run.{Run}
 use Rattle.lister.specs.Machine.{Holds}
 use Rattle.lister.specs.Pieces.{turning, giving, placing, Layable, Laid, markedWith, raised, adding, Markable, Marked}
 use Rattle.lister.specs.Visit

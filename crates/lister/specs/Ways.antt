@@ -10,7 +10,7 @@ use lib.Seq.{drop-set-lt, sets, sets-eq, length-sets, getD-append-add, getD-set-
 use Rattle.base.specs.Lists.{Every, every-none, every-more, every-first, every-rest}
 use Rattle.book.specs.Book.{Lit, Book}
 use Rattle.searching.specs.Rules.{Task, want, Node}
-use Rattle.lister.specs.declared.moves.Run.{Run}
+use Rattle.lister.specs.declared.run.Run.{Run}
 use Rattle.lister.specs.Machine.{Same, Listed, Chain, end, way, Trail, frame, Free, older, short, empty, Frame, Fine, byWays, Held, proving, picking, Hand, literal, record-at, last, agenda, failed, list, Holds}
 use Rattle.lister.specs.Memory.{trail-same, tail-same, agenda-same, held-used, held-same, agenda-at, free-at}
 use Rattle.lister.specs.Sheet.{area-same}

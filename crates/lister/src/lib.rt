@@ -1,10 +1,13 @@
 // The lister: document 01's search rules, run on the image as lent. The agenda, the marks and the frames of the search live in
 // the lent work area, the kept sets in the front of the lent list.
+pub mod agenda;
 pub mod area;
-pub mod moves;
+pub mod run;
 pub mod search;
 pub mod start;
 pub mod tables;
+pub mod visit;
+pub mod ways;
 
 use book::Reading;
 ghost use lib.ListN.{length};

@@ -1,6 +1,6 @@
 // The start of a search: the work area is made ready, and the root's agenda is in hand.
 use super::area;
-use super::moves::Run;
+use super::run::Run;
 use super::tables;
 use super::tables::Laid;
 use book::fields::field_at;
