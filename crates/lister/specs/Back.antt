@@ -14,8 +14,9 @@ use Rattle.base.specs.Bools.{decide}
 use Rattle.base.specs.Lists.{Every, every-none, every-more, every-first, every-rest}
 use Rattle.book.specs.Book.{Lit, Book}
 use Rattle.searching.specs.Rules.{Task, want, Node, assumed}
+use Rattle.tables.specs.Ground.{Listed, Chain, Ground, Area}
 use Rattle.lister.specs.declared.run.Run.{Run}
-use Rattle.lister.specs.Machine.{Same, Listed, Chain, Ground, Area, Trail, marks, entry, frame, Agenda, Free, older, short, empty, Frame, Fine, byWays, Held, bottom, under, proving, picking, Hand, literal, record-at, last, agenda, failed, way, list, Holds}
+use Rattle.lister.specs.Machine.{Same, Trail, marks, entry, frame, Agenda, Free, older, short, empty, Frame, Fine, byWays, Held, bottom, under, proving, picking, Hand, literal, record-at, last, agenda, failed, way, list, Holds}
 use Rattle.lister.specs.Memory.{trail-same, tail-same, agenda-same, held-used, held-same, agenda-at, free-at}
 use Rattle.lister.specs.Sheet.{area-undo, area-same}
 use Rattle.lister.specs.Marks.{trail-few}

@@ -10,8 +10,9 @@ use Rattle.book.specs.Book.{Lit, Book}
 use Rattle.book.specs.Decode.{litOf}
 use Rattle.book.specs.Shown.{litsAt}
 use Rattle.searching.specs.Rules.{Task, want, Node}
+use Rattle.tables.specs.Ground.{Listed, single, none, part}
 use Rattle.lister.specs.declared.run.Run.{Run}
-use Rattle.lister.specs.Machine.{Listed, single, none, part, lits, more, Short, Free, Fine, Hand, literal, record-at, last, agenda, failed, way, list, Holds}
+use Rattle.lister.specs.Machine.{lits, more, Short, Free, Fine, Hand, literal, record-at, last, agenda, failed, way, list, Holds}
 use Rattle.lister.specs.Marks.{trail-few}
 use Rattle.lister.specs.Pieces.{turning, placing, Layable, Laid}
 use Rattle.lister.specs.Agendas.{free-small, free-agenda, lay-down}

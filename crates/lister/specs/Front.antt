@@ -15,9 +15,9 @@ use Rattle.book.specs.Shown.{litsAt}
 use Rattle.book.specs.Encode.{longest}
 use Rattle.book.specs.Accepted.{within}
 use Rattle.searching.specs.Rules.{Task, want, pick, keep, Node}
+use Rattle.tables.specs.Ground.{Chain, Records, Ground, Area}
 use Rattle.lister.specs.declared.run.Run.{Run}
-use Rattle.lister.specs.Machine.{Chain, Records, end, record-at, Ground, Area, entry, Own, lits, records, Tail, rules, laid, Agenda, linked, more, Short, Free, short, empty, Fine, Hand, literal, last, agenda, failed, way, list, Holds}
-use Rattle.lister.specs.Machine
+use Rattle.lister.specs.Machine.{entry, Own, lits, records, Tail, rules, laid, Agenda, linked, more, Short, Free, short, empty, Fine, Hand, literal, record-at, last, agenda, failed, way, list, Holds}
 use Rattle.lister.specs.Memory.{tail-more}
 use Rattle.lister.specs.Marks.{trail-few}
 use Rattle.lister.specs.Pieces.{Filled, from-cell, as-is}
@@ -83,7 +83,7 @@ module _ {s : List ℕ} {b : Book} {tab : ℕ → ℕ} {w : List ℕ} {sheet : L
 
   open-safe : {at end link : ℕ} {ts : List Task} → Open s b tab w m at end link ts → (at < end → at + 2 ≤ length s) × (at + 1 < 16384)
   open-safe (tasks (lits n e l) t) = (λ h. omega arith, omega (arith, longest s b (g .book)))
-  open-safe (tasks (records (record-at p q c k r)) t) = (λ h. absurd (omega arith), omega arith)
+  open-safe (tasks (records (Records.record-at p q c k r)) t) = (λ h. absurd (omega arith), omega arith)
   open-safe (over e p q c) = (λ h. absurd (omega arith), omega arith)
 
   record First (at end link : ℕ) (ts : List Task) : Type 0 where
@@ -95,7 +95,7 @@ module _ {s : List ℕ} {b : Book} {tab : ℕ → ℕ} {w : List ℕ} {sheet : L
   unfolding litsAt
   open-lit (tasks {at = at} {end} {us = us} (lits zero e l) t) h = record { rest = us; is = refl; behind = let there : at + 2 ≡ end = omega arith in let low : at + 2 < 16384 = omega (arith, longest s b (g .book)) in linked there low t }
   open-lit (tasks {at = at} {end} {us = us} (lits (suc n) e l) t) h = record { rest = map want (litsAt s (at + 2) (suc n)) ++ us; is = refl; behind = let ends : end ≡ at + 2 + 2 * suc n = omega arith in more (lits n ends l) t }
-  open-lit (tasks (records (record-at p q c k r)) t) h = absurd (omega arith)
+  open-lit (tasks (records (Records.record-at p q c k r)) t) h = absurd (omega arith)
   open-lit (over e p q c) h = absurd (omega arith)
 
   data Picked (at end link : ℕ) (ts : List Task) : Type 0 where
@@ -105,13 +105,13 @@ module _ {s : List ℕ} {b : Book} {tab : ℕ → ℕ} {w : List ℕ} {sheet : L
 
   behind-record : {n link : ℕ} {ts us : List Task} {lss : List (List Lit)} → Records s tab n ts → Short lss ⊎ (n ≡ 0) → Tail s b tab w m link us
       → Free s b tab w m m n 0 link (ts ++ us) lss
-  behind-record end k t = let low : 0 < 16384 = omega arith in empty refl low t
-  behind-record (record-at p q c i r) (inl k) t = short (more (records (record-at p q c i r)) t) k
-  behind-record (record-at p q c i r) (inr k) t = absurd (omega arith)
+  behind-record Records.end k t = let low : 0 < 16384 = omega arith in empty refl low t
+  behind-record (Records.record-at p q c i r) (inl k) t = short (more (records (Records.record-at p q c i r)) t) k
+  behind-record (Records.record-at p q c i r) (inr k) t = absurd (omega arith)
 
   open-record : {at end link : ℕ} {ts : List Task} → Open s b tab w m at end link ts → end ≤ at → Picked at end link ts
   open-record (tasks (lits n e l) t) h = absurd (omega arith)
-  open-record (tasks {us = us} (records (record-at {lss = lss} {ts} p q c k r)) t) h = picks lss (ts ++ us) refl p q c (behind-record r k t)
+  open-record (tasks {us = us} (records (Records.record-at {lss = lss} {ts} p q c k r)) t) h = picks lss (ts ++ us) refl p q c (behind-record r k t)
   open-record (over e p q c) h = ends refl p q c
 
 -- the run with the first task in hand

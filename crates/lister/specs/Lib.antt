@@ -18,10 +18,6 @@ pub mod Want
 pub mod Pick
 pub mod Node
 pub mod Search
-pub mod Tables
-pub mod Lay
-pub mod Links
-pub mod Rules
 pub mod Start
 pub mod Promise
 pub mod PromiseLaws

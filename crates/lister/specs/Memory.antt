@@ -9,7 +9,8 @@ use lib.ListN.{set}
 use lib.Seq.{getD-set-other}
 use Rattle.book.specs.Book.{Lit, Book}
 use Rattle.searching.specs.Rules.{Task, Node}
-use Rattle.lister.specs.Machine.{Same, Chain, Trail, none, marks, entry, frame, Own, Tail, rules, laid, Agenda, linked, more, Free, older, short, empty, Frame, Held, bottom, under, proving, picking}
+use Rattle.tables.specs.Ground.{Chain}
+use Rattle.lister.specs.Machine.{Same, Trail, none, marks, entry, frame, Own, Tail, rules, laid, Agenda, linked, more, Free, older, short, empty, Frame, Held, bottom, under, proving, picking}
 
 -- the same numbers where one number is written elsewhere
 pub set-same : (w : List ℕ) (i a lo hi : ℕ) → ((j : ℕ) → lo ≤ j → j < hi → j ≡ i → ⊥) → Same w (set w i a) lo hi

@@ -13,8 +13,9 @@ use Rattle.sets.specs.Kept
 use Rattle.book.specs.Book.{Lit, Book}
 use Rattle.book.specs.Accepted.{orderly}
 use Rattle.searching.specs.Rules.{Task, pick, Node, assumed, children}
+use Rattle.tables.specs.Ground.{Chain}
 use Rattle.lister.specs.declared.run.Run.{Run}
-use Rattle.lister.specs.Machine.{Chain, Free, older, short, empty, Fine, byWays, Hand, literal, record-at, last, agenda, failed, way, list, Holds}
+use Rattle.lister.specs.Machine.{Free, older, short, empty, Fine, byWays, Hand, literal, record-at, last, agenda, failed, way, list, Holds}
 use Rattle.lister.specs.Tasks.{children-picks, fine-children, held-pick}
 use Rattle.lister.specs.Pieces.{turning, giving, noting}
 use Rattle.lister.specs.Ways.{chain-none, chain-empty}

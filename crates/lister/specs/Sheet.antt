@@ -15,7 +15,8 @@ use Rattle.base.specs.Bools.{choose, decide}
 use Rattle.book.specs.Book.{Lit, Book}
 use Rattle.book.specs.Decode.{litOf}
 use Rattle.searching.specs.Rules.{opposite, on, gather, assumed}
-use Rattle.lister.specs.Machine.{Same, markOf, pos, neg, Area}
+use Rattle.tables.specs.Ground.{markOf, pos, neg, Area}
+use Rattle.lister.specs.Machine.{Same}
 
 -- a literal's number is even for an atom and odd for a negation
 pub parity : (y : ℕ) → (y % 2 ≡ 0) ⊎ (y % 2 ≡ 1)

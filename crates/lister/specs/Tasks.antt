@@ -13,7 +13,8 @@ use Rattle.judging.specs.Meaning.{clausesFor}
 use Rattle.searching.specs.Rules.{opposite, Task, want, pick, break, Node, on, results, after, children}
 use Rattle.searching.specs.Steps.{child-of}
 use Rattle.searching.specs.Bounds.{held, frames-fall, child-named}
-use Rattle.lister.specs.Machine.{pos, neg, Fine, byWays}
+use Rattle.tables.specs.Ground.{pos, neg}
+use Rattle.lister.specs.Machine.{Fine, byWays}
 
 -- ---- children
 

@@ -18,8 +18,9 @@ use Rattle.book.specs.Decode.{litOf}
 use Rattle.book.specs.Accepted.{within, orderly}
 use Rattle.judging.specs.Meaning.{clausesFor}
 use Rattle.searching.specs.Rules.{opposite, Task, want, break, Node, on, assumed, children}
+use Rattle.tables.specs.Ground.{Chain, Records, Denied, undefined, broken, Ground, Area}
 use Rattle.lister.specs.declared.run.Run.{Run}
-use Rattle.lister.specs.Machine.{Chain, Denied, undefined, broken, Ground, Area, Trail, marks, entry, records, Tail, Agenda, more, Short, older, Fine, byWays, Held, under, Hand, literal, record-at, last, agenda, failed, way, list, Holds}
+use Rattle.lister.specs.Machine.{Trail, marks, entry, records, Tail, Agenda, more, Short, older, Fine, byWays, Held, under, Hand, literal, record-at, last, agenda, failed, way, list, Holds}
 use Rattle.lister.specs.Memory.{trail-same, agenda-more, agenda-same, held-used, held-same}
 use Rattle.lister.specs.Sheet.{parity, lit-even, lit-odd, Unmarked, free-lit, reads-free, reads-so, reads-refused, area-join, area-same, assumed-defined, assumed-negated, assumed-joined}
 use Rattle.lister.specs.Tasks.{children-refused, children-so, children-takes, children-opens, children-denies, fine-children, held-free}
@@ -65,7 +66,7 @@ says s b tab y g a = ⊎-elim (λ e. ⊎-elim (λ p. even e p) (λ p. even′ e 
 -- a record's number
 denied-apart : {s : List ℕ} {tab : ℕ → ℕ} {n : ℕ} {ts : List Task} → Denied s tab n ts → (n ≡ 0 → ⊥) × (n ≡ 2 → ⊥)
 denied-apart undefined = (λ e. omega (arith, e), λ e. omega (arith, e))
-denied-apart (broken (record-at p q c k r)) = (λ e. omega (arith, e, p), λ e. omega (arith, e, p))
+denied-apart (broken (Records.record-at p q c k r)) = (λ e. omega (arith, e, p), λ e. omega (arith, e, p))
 
 pub chain-apart : {s : List ℕ} {tab : ℕ → ℕ} {n : ℕ} {lss : List (List Lit)} → Chain s tab n lss → (n ≡ 1 → ⊥) × (n ≡ 2 → ⊥)
 chain-apart Chain.end = (λ e. omega (arith, e), λ e. omega (arith, e))
@@ -280,7 +281,7 @@ module _ (s : List ℕ) (b : Book) (w : List ℕ) (r : Run) (x : Node) (rest : L
       where
         none : (n : ℕ) {ts : List Task} → n ≡ 1 → Denied s (h .tab) n ts → ts ≡ []
         none n i undefined = refl
-        none n i (broken (record-at p q c k u)) = absurd (omega arith)
+        none n i (broken (Records.record-at p q c k u)) = absurd (omega arith)
 
         go : (n : ℕ) → n ≡ 1 → Says s b (h .tab) y n → Holds s b (markedWith w r y) (turning (raised r) 2) (children b x ++ rest)
         go n i (assumes e p k) = absurd (omega arith)

@@ -10,8 +10,9 @@ use lib.Seq.{drop-set-lt, sets, sets-eq, length-sets, getD-append-add, getD-set-
 use Rattle.base.specs.Lists.{Every, every-none, every-more, every-first, every-rest}
 use Rattle.book.specs.Book.{Lit, Book}
 use Rattle.searching.specs.Rules.{Task, want, Node}
+use Rattle.tables.specs.Ground.{Listed, Chain}
 use Rattle.lister.specs.declared.run.Run.{Run}
-use Rattle.lister.specs.Machine.{Same, Listed, Chain, end, way, Trail, frame, Free, older, short, empty, Frame, Fine, byWays, Held, proving, picking, Hand, literal, record-at, last, agenda, failed, list, Holds}
+use Rattle.lister.specs.Machine.{Same, Trail, frame, Free, older, short, empty, Frame, Fine, byWays, Held, proving, picking, Hand, literal, record-at, last, agenda, failed, way, list, Holds}
 use Rattle.lister.specs.Memory.{trail-same, tail-same, agenda-same, held-used, held-same, agenda-at, free-at}
 use Rattle.lister.specs.Sheet.{area-same}
 use Rattle.lister.specs.Marks.{trail-few}
@@ -71,14 +72,14 @@ pub record Ahead (s : List ℕ) (tab : ℕ → ℕ) (n : ℕ) (ls : List Lit) (l
   pub others : Chain s tab (tab (n + 1)) lss
 
 pub chain-ahead : {s : List ℕ} {tab : ℕ → ℕ} {n : ℕ} {ls : List Lit} {lss : List (List Lit)} → Chain s tab n (ls ∷ lss) → Ahead s tab n ls lss
-chain-ahead (way p q l c) = record { low = p; high = q; first = l; others = c }
+chain-ahead (Chain.way p q l c) = record { low = p; high = q; first = l; others = c }
 
 pub chain-none : {s : List ℕ} {tab : ℕ → ℕ} {n : ℕ} {lss : List (List Lit)} → Chain s tab n lss → n ≡ 0 → lss ≡ []
-chain-none end e = refl
-chain-none (way p q l c) e = absurd (omega arith)
+chain-none Chain.end e = refl
+chain-none (Chain.way p q l c) e = absurd (omega arith)
 
 pub chain-empty : {s : List ℕ} {tab : ℕ → ℕ} {n : ℕ} → Chain s tab n [] → n ≡ 0
-chain-empty end = refl
+chain-empty Chain.end = refl
 
 -- a node with fewer frames below it
 pub fine-less : (b : Book) (n : Node) (k : ℕ) → Fine b (suc k) n → Fine b k n

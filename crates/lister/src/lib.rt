@@ -1,11 +1,9 @@
 // The lister: document 01's search rules, run on the image as lent. The agenda, the marks and the frames of the search live in
-// the lent work area, the kept sets in the front of the lent list.
+// the lent work area, beside the tables (tables/src/area has the layout), the kept sets in the front of the lent list.
 pub mod agenda;
-pub mod area;
 pub mod run;
 pub mod search;
 pub mod start;
-pub mod tables;
 pub mod visit;
 pub mod ways;
 
@@ -69,7 +67,7 @@ pub fn list_book(image: &[u8], budget: u32, sets: &mut [u64], work: &mut [u32]) 
 {
     let root = start::start(image, work);
     let r = search::walk_on(image, budget as usize, sets, work, root);
-    area::wipe(work, SPACE);
+    tables::area::wipe(work, SPACE);
     let state = r.state;
     let count = r.count;
     let nodes = r.nodes as u32;

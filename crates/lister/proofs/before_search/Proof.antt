@@ -1,5 +1,5 @@
 -- `lister::before_search` meets its contract: each test says which refusal it is. Assumes nothing.
-use Rattle.lister.specs.Tables.{IsBook}
+use Rattle.tables.specs.Clauses.{IsBook}
 use Rattle.lister.specs.Whole.{read-book, read-refused}
 use Rattle.lister.specs.PromiseLaws.{early-refused, early-long, early-short, early-budget}
 use borrow.Author.Needs.{needs}
