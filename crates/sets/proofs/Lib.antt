@@ -2,4 +2,5 @@
 pub mod Steps
 pub mod Loops
 pub mod Ordering
+pub mod Runs
 pub mod Joining

@@ -13,11 +13,11 @@ use Rattle.sets.proofs.join.Statement.{statement}
 use Rattle.sets.proofs.join.Tie as tie
 
 -- where both lists are inserted
-both : (c : tie.After-insert-all2)
-    → Gathered (c .before .before .before .before .before .before .before .before .before .before .before .args .left .now) (c .before .before .before .before .before .before .before .before .before .before .before .args .right .now) (c .before .before .before .before .before .before .before .before .before .before .before .args .out .now) (c .insert-all2 .last .0) (c .insert-all2 .result)
-both c =
-    let a = c .before .before .before .before .before .before .before .before .before .before .before .args in
-    gathered (a .left .now) (a .right .now) (a .out .now) (c .before .before .before .before .before .before .before .if1 .left) (c .before .before .before .before .before .before .if2 .left) (c .before .before .before .before .before .if3 .left) (c .before .before .before .insert-all .ensures .list) (c .insert-all2 .ensures)
+both : (m : tie.After-insert-all2) → let a = m .before .before .before .before .before .before .before .before .before .before .before .args in Gathered (a .left .now) (a .right .now) (a .out .now) (m .insert-all2 .last .0) (m .insert-all2 .result)
+both m =
+    let admitted = m .before .before .before .before .before in
+    gathered _ _ _ (admitted .before .before .if1 .left) (admitted .before .if2 .left) (admitted .if3 .left)
+    (m .before .before .before .insert-all .ensures .list) (m .insert-all2 .ensures)
 
 returns : tie.Need-returns
 returns c =
@@ -35,17 +35,22 @@ returns-3 c =
     joins-by tooLong (ending-long (a .left .now) (a .right .now) (a .out .now) (inr (inr (c .if3 .taken)))) refl refl
 
 insert-all-requires-2 : tie.Need-insert-all-requires-2
-insert-all-requires-2 c κs = omega (arith, c .before .before .insert-all .ensures .count, inserted-length (c .before .before .before .before .before .before .before .before .before .before .args .left .now) [])
+insert-all-requires-2 c κs =
+    let first = c .before .before in
+    omega (arith, first .insert-all .ensures .count, inserted-length (first .before .before .before .before .before .before .before .before .args .left .now) [])
 
 returns-4 : tie.Need-returns-4
 returns-4 c =
-    let a = c .before .before .before .before .before .before .before .before .before .before .before .before .before .before .before .before .before .args in
-    no-room (a .left .now) (a .right .now) (a .out .now) (both (c .before .before .before .before .before .before)) (c .before .before .before .before .if4 .taken) (c .before .before .clear .ensures)
+    let full = c .before .before .before .before in
+    let m = full .before .before in
+    no-room _ _ _ (both m) (full .if4 .taken) (c .before .before .clear .ensures)
 
 returns-5 : tie.Need-returns-5
 returns-5 c =
-    let a = c .before .before .before .before .before .before .before .before .before .before .before .before .before .before .before .before .before .before .before .before .before .before .before .before .before .args in
-    filled (a .left .now) (a .right .now) (a .out .now) (both (c .before .before .before .before .before .before .before .before .before .before .before .before .before .before)) (c .before .before .before .before .before .before .before .before .before .before .before .before .if4 .left) (c .before .before .before .before .before .before .before .before .before .before .order .ensures) (c .before .before .before .before .before .before .copy .ensures) (c .before .before .clear2 .ensures)
+    let copied = c .before .before .before .before .before .before in
+    let fits = copied .before .before .before .before .before .before in
+    let m = fits .before .before in
+    filled _ _ _ (both m) (fits .if4 .left) (copied .before .before .before .before .order .ensures) (copied .copy .ensures) (c .before .before .clear2 .ensures)
 
 pub join-spec : {M : Type 1} → statement M
 join-spec =
