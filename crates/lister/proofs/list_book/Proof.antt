@@ -23,10 +23,11 @@ cast-nodes c =
 order-requires : tie.Need-order-requires
 order-requires c κs =
     let m = c .before .before .before .before .before .before .before .before .before .before .before in
-    let a = m .before .before .before .before .before .before .before .before .before .before .args in
+    let s = m .before .before .before .before .before .before .before .before .before .before in
     let h = m .walk-on .ensures in
-    count-fits _ _ (a .sets .now) (a .work .now) _ (m .walk-on .last .1 .1 .1 .0) _ (h .stopped) (m .walk-on .kept .1 .1 .0)
-    (h .later ∙ m .before .before .before .before .before .start .ensures .later) (c .before .if1 .taken)
+    let fits = count-fits _ _ (s .args .sets .now) (s .args .work .now) _ (m .walk-on .last .1 .1 .1 .0) _ (h .stopped) (m .walk-on .kept .1 .1 .0)
+    (h .later ∙ m .before .before .before .before .before .start .ensures .later) (c .before .if1 .taken) in
+    (fits, omega (arith, s .pre .few, fits, m .walk-on .kept .1 .1 .0))
 
 clear-requires : tie.Need-clear-requires
 clear-requires c κs =
