@@ -1,13 +1,29 @@
 -- `judging::judge_accepted` meets its contract. Assumes nothing.
-use mathlib.Core.Path.{ap, _∙_}
+use mathlib.Core.Path.{_≡_, ap, _∙_}
 use native.Mathlib.Omega.{arith}
+use lib.ListN.{length}
 use Rattle.book.specs.Walk.{fieldAt}
+use Rattle.judging.specs.Notes.{bookIn}
 use Rattle.judging.proofs.Image.{shows}
 use Rattle.judging.proofs.Memo.{noted-none}
 use Rattle.judging.proofs.Answer.{goal-counted, goal-known, answers-above, answers-goal, answers-constraint, answers-explains}
 use borrow.Author.Needs.{needs}
 use Rattle.judging.proofs.judge_accepted.Statement.{statement}
 use Rattle.judging.proofs.judge_accepted.Tie as tie
+
+-- from the goal's answer back to the test of the set, and to the entry
+abbrev named : tie.After-first-false → tie.Else1
+named c = c .before .before .before .before
+
+abbrev entry : tie.Else1 → tie.Start
+entry c = c .before .before .before .before
+
+-- the constraints are as many as the code finds
+counted : (c : tie.After-field-at3) → c .field-at3 .result ≡ length (bookIn (entry (named (c .before .before .before)) .args .image .now) .constraints)
+counted c =
+    let e = entry (named (c .before .before .before)) in
+    let s = e .args .image .now in
+    c .field-at3 .ensures .0 ∙ ap (fieldAt s) (c .before .constraints .ensures) ∙ shows s (e .pre) .constraints
 
 field-at-requires : tie.Need-field-at-requires
 field-at-requires c κs = let sh = shows (c .before .args .image .now) (c .before .pre) in omega (arith, sh .front, sh .fits)
@@ -16,31 +32,39 @@ returns : tie.Need-returns
 returns c = answers-above _ (c .before .before .before .before .pre) _ _ _ (c .before .before .field-at .ensures .0) (c .before .names-above .ensures) (c .if1 .taken)
 
 field-at-requires-2 : tie.Need-field-at-requires-2
-field-at-requires-2 c κs = let sh = shows (c .before .before .before .before .args .image .now) (c .before .before .before .before .pre) in omega (arith, sh .front, sh .fits)
+field-at-requires-2 c κs = let sh = shows (entry c .args .image .now) (entry c .pre) in omega (arith, sh .front, sh .fits)
 
 part-first-false-end : tie.Need-part-first-false-end
-part-first-false-end c = let g = goal-counted (c .before .before .before .before .before .before .args .image .now) (c .before .before .before .before .before .before .pre) in omega (arith, g .count, g .within, c .before .field-at2 .ensures .0)
+part-first-false-end c = let e = entry (c .before .before) in let g = goal-counted (e .args .image .now) (e .pre) in omega (arith, g .count, g .within, c .before .field-at2 .ensures .0)
 
 first-false-requires : tie.Need-first-false-requires
-first-false-requires c κs = (c .before .before .before .before .before .before .before .pre, (noted-none _ _ 256, goal-known _ (c .before .before .before .before .before .before .before .pre) _ (c .before .before .field-at2 .ensures .0)))
+first-false-requires c κs = let p = entry (c .before .before .before) .pre in (p, (noted-none _ _ 256, goal-known _ p _ (c .before .before .field-at2 .ensures .0)))
 
 returns-2 : tie.Need-returns-2
-returns-2 c = answers-goal _ (c .before .before .before .before .before .before .before .before .before .pre) _ _ _ (c .before .before .before .before .before .before .before .field-at .ensures .0) (c .before .before .before .before .before .before .names-above .ensures) (c .before .before .before .before .before .if1 .left) _ _ (c .before .before .before .before .field-at2 .ensures .0) (c .before .first-false .ensures .0) (c .if2 .taken)
+returns-2 c =
+    let goal = c .before in
+    let n = named goal in
+    answers-goal _ (entry n .pre) _ _ _ (n .before .before .field-at .ensures .0) (n .before .names-above .ensures) (n .if1 .left)
+    _ _ (goal .before .before .before .field-at2 .ensures .0) (goal .first-false .ensures .0) (c .if2 .taken)
 
 field-at-requires-3 : tie.Need-field-at-requires-3
-field-at-requires-3 c κs = let sh = shows (c .before .before .before .before .before .before .before .before .before .before .args .image .now) (c .before .before .before .before .before .before .before .before .before .before .pre) in omega (arith, sh .fits, c .constraints .ensures)
+field-at-requires-3 c κs = let e = entry (named (c .before .before)) in omega (arith, shows (e .args .image .now) (e .pre) .fits, c .constraints .ensures)
 
 returns-3 : tie.Need-returns-3
 returns-3 c =
-    let s = c .before .before .before .before .before .before .before .before .before .before .before .before .before .before .args .image .now in
-    answers-constraint _ (c .before .before .before .before .before .before .before .before .before .before .before .before .before .before .pre) _ _ _ (c .before .before .before .before .before .before .before .before .before .before .before .before .field-at .ensures .0) (c .before .before .before .before .before .before .before .before .before .before .before .names-above .ensures) (c .before .before .before .before .before .before .before .before .before .before .if1 .left) _ _ (c .before .before .before .before .before .before .before .before .before .field-at2 .ensures .0) (c .before .before .before .before .before .before .first-false .ensures .0) (c .before .before .before .before .before .if2 .left) _ _
-    (c .before .before .before .field-at3 .ensures .0 ∙ ap (fieldAt s) (c .before .before .before .before .constraints .ensures) ∙ shows s (c .before .before .before .before .before .before .before .before .before .before .before .before .before .before .pre) .constraints) (c .before .first-broken .ensures .0) (c .if3 .taken)
+    let goal = c .before .before .before .before .before .before in
+    let n = named goal in
+    answers-constraint _ (entry n .pre) _ _ _ (n .before .before .field-at .ensures .0) (n .before .names-above .ensures) (n .if1 .left)
+    _ _ (goal .before .before .before .field-at2 .ensures .0) (goal .first-false .ensures .0) (c .before .before .before .before .before .if2 .left)
+    _ _ (counted (c .before .before .before)) (c .before .first-broken .ensures .0) (c .if3 .taken)
 
 returns-4 : tie.Need-returns-4
 returns-4 c =
-    let s = c .before .before .before .before .before .before .before .before .before .before .before .before .before .before .args .image .now in
-    answers-explains _ (c .before .before .before .before .before .before .before .before .before .before .before .before .before .before .pre) _ _ _ (c .before .before .before .before .before .before .before .before .before .before .before .before .field-at .ensures .0) (c .before .before .before .before .before .before .before .before .before .before .before .names-above .ensures) (c .before .before .before .before .before .before .before .before .before .before .if1 .left) _ _ (c .before .before .before .before .before .before .before .before .before .field-at2 .ensures .0) (c .before .before .before .before .before .before .first-false .ensures .0) (c .before .before .before .before .before .if2 .left) _ _
-    (c .before .before .before .field-at3 .ensures .0 ∙ ap (fieldAt s) (c .before .before .before .before .constraints .ensures) ∙ shows s (c .before .before .before .before .before .before .before .before .before .before .before .before .before .before .pre) .constraints) (c .before .first-broken .ensures .0) (c .if3 .left)
+    let goal = c .before .before .before .before .before .before in
+    let n = named goal in
+    answers-explains _ (entry n .pre) _ _ _ (n .before .before .field-at .ensures .0) (n .before .names-above .ensures) (n .if1 .left)
+    _ _ (goal .before .before .before .field-at2 .ensures .0) (goal .first-false .ensures .0) (c .before .before .before .before .before .if2 .left)
+    _ _ (counted (c .before .before .before)) (c .before .first-broken .ensures .0) (c .if3 .left)
 
 pub judge-accepted-spec : {M : Type 1} → statement M
 judge-accepted-spec =

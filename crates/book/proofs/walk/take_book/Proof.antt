@@ -12,29 +12,35 @@ returns c =
 
 returns-2 : tie.Need-returns-2
 returns-2 c =
+    let atoms = c .before .before .before .before .before in
     sym
     (ap gone
     (book-no-abducibles _ _
-    (sym (c .before .before .before .before .before .before .before .take-atoms .ensures) ∙ ap taken (c .before .before .before .before .before .atoms .given .1))
+    (sym (atoms .before .before .take-atoms .ensures) ∙ ap taken (atoms .atoms .given .1))
     (sym (c .before .before .before .take-abducibles .ensures) ∙ ap taken (c .before .n2 .given .1))))
 
 returns-3 : tie.Need-returns-3
 returns-3 c =
+    let abducibles = c .before .before .before .before .before in
+    let atoms = abducibles .before .before .before .before in
     sym
     (ap gone
     (book-no-goal _ _
-    (sym (c .before .before .before .before .before .before .before .before .before .before .before .take-atoms .ensures) ∙ ap taken (c .before .before .before .before .before .before .before .before .before .atoms .given .1))
-    (sym (c .before .before .before .before .before .before .before .take-abducibles .ensures) ∙ ap taken (c .before .before .before .before .before .abducibles .given .1))
+    (sym (atoms .before .before .take-atoms .ensures) ∙ ap taken (atoms .atoms .given .1))
+    (sym (abducibles .before .before .take-abducibles .ensures) ∙ ap taken (abducibles .abducibles .given .1))
     (sym (c .before .before .before .take-goal .ensures) ∙ ap taken (c .before .n3 .given .1))))
 
 returns-4 : tie.Need-returns-4
 returns-4 c =
+    let goal = c .before .before in
+    let abducibles = goal .before .before .before .before in
+    let atoms = abducibles .before .before .before .before in
     c .take-rules .ensures
     ∙ sym
     (book-rules _ _
-    (sym (c .before .before .before .before .before .before .before .before .before .before .before .before .take-atoms .ensures) ∙ ap taken (c .before .before .before .before .before .before .before .before .before .before .atoms .given .1))
-    (sym (c .before .before .before .before .before .before .before .before .take-abducibles .ensures) ∙ ap taken (c .before .before .before .before .before .before .abducibles .given .1))
-    (sym (c .before .before .before .before .take-goal .ensures) ∙ ap taken (c .before .before .rest .given .1)))
+    (sym (atoms .before .before .take-atoms .ensures) ∙ ap taken (atoms .atoms .given .1))
+    (sym (abducibles .before .before .take-abducibles .ensures) ∙ ap taken (abducibles .abducibles .given .1))
+    (sym (goal .before .before .take-goal .ensures) ∙ ap taken (goal .rest .given .1)))
 
 pub take-book-spec : {M : Type 1} → statement M
 take-book-spec =

@@ -10,6 +10,13 @@ use borrow.Author.Needs.{needs}
 use Rattle.judging.proofs.constraints.holds.Statement.{statement}
 use Rattle.judging.proofs.constraints.holds.Tie as tie
 
+-- from the conditions' answer back to their count, and to the entry
+abbrev counted : tie.After-first-false → tie.After-field-at2
+counted c = c .before .before .before
+
+abbrev entry : tie.After-field-at2 → tie.Start
+entry c = c .before .before .before
+
 -- the constraint that stands at the place
 here : (c : tie.Start) → Rule (c .args .image .now) (c .args .place) (c .pre .1 .1 .0)
 here c = rule _ (c .pre .0) _ _ (c .pre .1 .1 .1) (c .pre .1 .1 .2)
@@ -46,24 +53,27 @@ first-false-requires c κs =
     )
 
 returns : tie.Need-returns
-returns c = (
-  λ k m h. sym (rule-false _ _ _ k (rule _ (c .before .before .before .before .before .before .before .pre .0) _ k m h) _ _ (c .before .before .before .before .field-at2 .ensures .0) (c .before .first-false .ensures .0) (c .if1 .taken)),
-  c .before .first-false .ensures .1,
-)
+returns c =
+    let n = counted (c .before) in
+    let first = c .before .first-false .ensures in
+    (λ k m h. sym (rule-false _ _ _ k (rule _ (entry n .pre .0) _ k m h) _ _ (n .field-at2 .ensures .0) (first .0) (c .if1 .taken)), first .1)
 
 some-way-requires : tie.Need-some-way-requires
 some-way-requires c κs =
-    let e = c .before .before .before .before .before .before .before .before in
-    (e .pre .0, (c .before .before .first-false .ensures .1, (_, rule-ways _ _ _ (here e) _ _ (c .before .before .before .before .before .field-at2 .ensures .0) (c .before .before .before .before .before .before .field-at .ensures .0))))
+    let first = c .before .before in
+    let n = counted first in
+    (entry n .pre .0, (first .first-false .ensures .1, (_, rule-ways _ _ _ (here (entry n)) _ _ (n .field-at2 .ensures .0) (n .before .field-at .ensures .0))))
 
 returns-2 : tie.Need-returns-2
-returns-2 c = (
-  λ k m h.
-      let r = rule _ (c .before .before .before .before .before .before .before .before .before .pre .0) _ k m h in
-      c .some-way .ensures .0 _ (rule-ways _ _ k r _ _ (c .before .before .before .before .before .before .field-at2 .ensures .0) (c .before .before .before .before .before .before .before .field-at .ensures .0))
-      ∙ sym (rule-true _ _ _ k r _ _ (c .before .before .before .before .before .before .field-at2 .ensures .0) (c .before .before .before .first-false .ensures .0) (c .before .before .if1 .left)),
-  c .some-way .ensures .1,
-)
+returns-2 c =
+    let first = c .before .before .before in
+    let n = counted first in (
+      λ k m h.
+          let r = rule _ (entry n .pre .0) _ k m h in
+          c .some-way .ensures .0 _ (rule-ways _ _ k r _ _ (n .field-at2 .ensures .0) (n .before .field-at .ensures .0))
+          ∙ sym (rule-true _ _ _ k r _ _ (n .field-at2 .ensures .0) (first .first-false .ensures .0) (c .before .before .if1 .left)),
+      c .some-way .ensures .1,
+    )
 
 pub holds-spec : {M : Type 1} → statement M
 holds-spec =

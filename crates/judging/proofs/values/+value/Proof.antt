@@ -79,6 +79,10 @@ module _ (t : ℕ) where
   abbrev Entry : Type 0
   Entry = lts.Start (claims t) (value-at t) value.Post Inv-loop μ-loop Inv-clauses μ-clauses
 
+  -- with the number of abducibles
+  abbrev Limited : Type 0
+  Limited = lts.After-field-at (claims t) (value-at t) value.Post Inv-loop μ-loop Inv-clauses μ-clauses
+
   -- at a clause, with its record length
   abbrev Sized : Type 0
   Sized = lts.After-field-at3 (claims t) (value-at t) value.Post Inv-loop μ-loop Inv-clauses μ-clauses
@@ -99,8 +103,11 @@ module _ (t : ℕ) where
   abbrev Told : Type 0
   Told = lts.After-is-true (claims t) (value-at t) value.Post Inv-loop μ-loop Inv-clauses μ-clauses
 
+  abbrev first : Limited → Entry
+  first c = c .before .before .before .before
+
   abbrev entry : Sized → Entry
-  entry c = c .before .before .before .before .before .before .before .before .before .before
+  entry c = first (c .before .before .before .before .before .before)
 
   abbrev sized : Meets → Sized
   sized c = c .before .before .before .before .before .before .before
@@ -169,9 +176,9 @@ module _ (t : ℕ) where
       (read-false _ (accepts (entry s)) _ _ _ _ _ _ _ (meets c .before .before .before .before .loop .inv) _ (met (meets c)) (truth c ∙ f))
 
   -- where the scan is left, what it yields is the value
-  yields : (c : lts.Joined3 (claims t) (value-at t) value.Post Inv-loop μ-loop Inv-clauses μ-clauses) → (let e = c .before .before .before .before .before .before .before .before .before in (c .if3 .met ≡ values e (atom e)) × Noted (book e) (assumed e) (c .if3 .memo))
+  yields : (c : lts.Joined3 (claims t) (value-at t) value.Post Inv-loop μ-loop Inv-clauses μ-clauses) → (let e = first (c .before .before .before .before .before) in (c .if3 .met ≡ values e (atom e)) × Noted (book e) (assumed e) (c .if3 .memo))
   yields c =
-      let e = c .before .before .before .before .before .before .before .before .before in
+      let e = first (c .before .before .before .before .before) in
       ⊎-elim
       (λ w. (
         w .2 ∙ sym (scan-over _ (accepts e) _ _ _ _ _ _ (c .before .clauses .inv) (w .0 .taken)),
@@ -201,49 +208,49 @@ module _ (t : ℕ) where
 
   is-in-requires : lts.Need-is-in-requires (claims t) (value-at t) value.Post Inv-loop μ-loop Inv-clauses μ-clauses
   is-in-requires c κs =
-      let e = c .before .before .before .before .before in
+      let e = first (c .before) in
       omega (arith, shows (image e) (accepts e) .abducibles, few-abducibles (image e) (accepts e), c .before .field-at .ensures .0, c .if2 .taken)
 
   note-requires : lts.Need-note-requires (claims t) (value-at t) value.Post Inv-loop μ-loop Inv-clauses μ-clauses
   note-requires c κs = tt
 
   element-write-memo : lts.Need-element-write-memo (claims t) (value-at t) value.Post Inv-loop μ-loop Inv-clauses μ-clauses
-  element-write-memo c = small (c .before .before .before .before .before .before .before)
+  element-write-memo c = small (first (c .before .before .before))
 
   returns-2 : lts.Need-returns-2 (claims t) (value-at t) value.Post Inv-loop μ-loop Inv-clauses μ-clauses
   returns-2 c =
-      let e = c .before .before .before .before .before .before .before in
+      let e = first (c .before .before .before) in
       let below : atom e < book e .abducibles = omega (arith, shows (image e) (accepts e) .abducibles, c .before .before .before .field-at .ensures .0, c .before .before .if2 .taken) in
       let right = c .before .is-in .ensures ∙ sym (value-set (image e) (accepts e) (assumed e) (atom e) below) in
       (right, noted-more (book e) (assumed e) (atom e) _ _ (e .args .memo .now) (e .pre .1 .1 .0) right (c .note .ensures))
 
   clauses-requires : lts.Need-clauses-requires (claims t) (value-at t) value.Post Inv-loop μ-loop Inv-clauses μ-clauses
-  clauses-requires c κs = accepts (c .before .before .before .before .before)
+  clauses-requires c κs = accepts (first (c .before))
 
   field-at-requires-2 : lts.Need-field-at-requires-2 (claims t) (value-at t) value.Post Inv-loop μ-loop Inv-clauses μ-clauses
   field-at-requires-2 c κs =
-      let e = c .before .before .before .before .before .before in
+      let e = first (c .before .before) in
       omega (arith, clauses-fit (image e) (accepts e), c .clauses2 .ensures)
 
   add-place : lts.Need-add-place (claims t) (value-at t) value.Post Inv-loop μ-loop Inv-clauses μ-clauses
   add-place c =
-      let e = c .before .before .before .before .before .before .before in
+      let e = first (c .before .before .before) in
       omega (arith, clauses-fit (image e) (accepts e), c .before .clauses2 .ensures, e .good .0 .0)
 
   clauses-holds : lts.Need-clauses-holds (claims t) (value-at t) value.Post Inv-loop μ-loop Inv-clauses μ-clauses
   clauses-holds c =
-      let e = c .before .before .before .before .before .before .before in
+      let e = first (c .before .before .before) in
       let defined : book e .abducibles ≤ atom e = omega (arith, shows (image e) (accepts e) .abducibles, c .before .before .before .field-at .ensures .0, c .before .before .if2 .left) in
       scan-start (image e) (accepts e) (assumed e) (atom e) _ _ (e .args .memo .now) (e .pre .1 .1 .0) defined (c .field-at2 .ensures .0) (c .before .clauses2 .ensures)
 
   add-head : lts.Need-add-head (claims t) (value-at t) value.Post Inv-loop μ-loop Inv-clauses μ-clauses
   add-head c =
-      let clause = scan-clause _ (accepts (c .before .before .before .before .before .before .before .before .before)) _ _ _ _ _ _ (c .before .clauses .inv) (c .if3 .left) in
-      omega (arith, clause .headed, clause .ended, c .before .before .before .before .before .before .before .before .before .good)
+      let clause = scan-clause _ (accepts (first (c .before .before .before .before .before))) _ _ _ _ _ _ (c .before .clauses .inv) (c .if3 .left) in
+      omega (arith, clause .headed, clause .ended, first (c .before .before .before .before .before) .good)
 
   field-at-requires-3 : lts.Need-field-at-requires-3 (claims t) (value-at t) value.Post Inv-loop μ-loop Inv-clauses μ-clauses
   field-at-requires-3 c κs =
-      let clause = scan-clause _ (accepts (c .before .before .before .before .before .before .before .before .before)) _ _ _ _ _ _ (c .before .clauses .inv) (c .if3 .left) in
+      let clause = scan-clause _ (accepts (first (c .before .before .before .before .before))) _ _ _ _ _ _ (c .before .clauses .inv) (c .if3 .left) in
       omega (arith, clause .headed, clause .ended)
 
   cast-end : lts.Need-cast-end (claims t) (value-at t) value.Post Inv-loop μ-loop Inv-clauses μ-clauses
@@ -332,11 +339,11 @@ module _ (t : ℕ) where
   note-requires-2 c κs = tt
 
   element-write-memo-2 : lts.Need-element-write-memo-2 (claims t) (value-at t) value.Post Inv-loop μ-loop Inv-clauses μ-clauses
-  element-write-memo-2 c = small (c .before .before .before .before .before .before .before .before .before .before)
+  element-write-memo-2 c = small (first (c .before .before .before .before .before .before))
 
   returns-3 : lts.Need-returns-3 (claims t) (value-at t) value.Post Inv-loop μ-loop Inv-clauses μ-clauses
   returns-3 c =
-      let e = c .before .before .before .before .before .before .before .before .before .before in
+      let e = first (c .before .before .before .before .before .before) in
       let y = yields (c .before) in
       (y .0, noted-more (book e) (assumed e) (atom e) _ _ (c .before .if3 .memo) (y .1) (y .0) (c .note2 .ensures))
 

@@ -19,19 +19,25 @@ Inv-loop image set memo₀ part at₀ i₀ memo at i = Run image set part at i m
 abbrev μ-loop : tie.MeasureT-loop
 μ-loop image set memo₀ part at₀ i₀ memo at i = length part - at
 
+-- from the truth of a literal back to the literal, and to the entry
+abbrev meets : tie.After-is-true Inv-loop μ-loop → tie.After-p Inv-loop μ-loop
+meets c = c .before .before .before .before
+
+abbrev entry : tie.After-p Inv-loop μ-loop → tie.Start Inv-loop μ-loop
+entry c = c .before .before .before .before .before .before
+
 abbrev lit : tie.After-p Inv-loop μ-loop → Lit
 lit c = record { atom = c .p .given .0 .0; sign = c .p .given .0 .1 .0 }
 
 -- the literal that the walk meets stands in the part
-met : (c : tie.After-p Inv-loop μ-loop) → Here (c .before .before .before .before .before .before .args .part .now) (length (c .before .before .before .before .before .before .args .part .now)) (c .before .before .before .loop .at) (lit c)
+met : (c : tie.After-p Inv-loop μ-loop) → let part = entry c .args .part .now in Here part (length part) (c .before .before .before .loop .at) (lit c)
 met c = met-literal _ _ _ _ (sym (c .before .before .walk .ensures) ∙ c .p .given .1)
 
 -- and is true as the code finds it
-truth : (c : tie.After-is-true Inv-loop μ-loop)
-    → true-in (value (bookIn (c .before .before .before .before .before .before .before .before .before .before .args .image .now)) (c .before .before .before .before .before .before .before .before .before .before .args .set)) (lit (c .before .before .before .before)) ≡ c .is-true .result
+truth : (c : tie.After-is-true Inv-loop μ-loop) → let a = entry (meets c) .args in true-in (value (bookIn (a .image .now)) (a .set)) (lit (meets c)) ≡ c .is-true .result
 truth c =
-    let e = c .before .before .before .before .before .before .before .before .before .before in
-    met-truth (value (bookIn (e .args .image .now)) (e .args .set)) (lit (c .before .before .before .before) .atom) (lit (c .before .before .before .before) .sign) _ _ (c .is-true .ensures) (c .before .value .ensures .0)
+    let a = entry (meets c) .args in
+    met-truth (value (bookIn (a .image .now)) (a .set)) (lit (meets c) .atom) (lit (meets c) .sign) _ _ (c .is-true .ensures) (c .before .value .ensures .0)
 
 loop-holds : tie.Need-loop-holds Inv-loop μ-loop
 loop-holds c = run-start _ _ _ _ (c .before .before .pre .1 .0) (c .before .before .pre .1 .1)
@@ -43,35 +49,38 @@ enum-told : tie.Need-enum-told Inv-loop μ-loop
 enum-told c = search needs
 
 returns : tie.Need-returns Inv-loop μ-loop
-returns c = (run-over _ _ _ _ _ _ (c .before .before .before .loop .inv) (met-end _ _ (sym (c .before .before .walk .ensures) ∙ c .enum-told .given .1)), c .before .before .before .loop .inv .noted)
+returns c = let i = c .before .before .before .loop .inv in (run-over _ _ _ _ _ _ i (met-end _ _ (sym (c .before .before .walk .ensures) ∙ c .enum-told .given .1)), i .noted)
 
 enum-known-p : tie.Need-enum-known-p Inv-loop μ-loop
 enum-known-p c = search needs
 
 value-requires : tie.Need-value-requires Inv-loop μ-loop
-value-requires c κs = (c .before .before .before .before .before .before .before .before .pre .0, (c .before .before .before .before .before .loop .inv .noted, run-known _ _ _ _ _ _ (c .before .before .before .before .before .loop .inv) _ (met (c .before .before))))
+value-requires c κs =
+    let m = c .before .before in
+    let i = m .before .before .before .loop .inv in
+    (entry m .pre .0, (i .noted, run-known _ _ _ _ _ _ i _ (met m)))
 
 is-true-requires : tie.Need-is-true-requires Inv-loop μ-loop
 is-true-requires c κs = tt
 
 returns-2 : tie.Need-returns-2 Inv-loop μ-loop
-returns-2 c = (
-  run-false _ _ _ _ _ _ (c .before .before .before .before .before .before .before .before .loop .inv) _ (met (c .before .before .before .before .before)) (truth (c .before) ∙ not-true _ (c .if1 .taken)),
-  c .before .before .value .ensures .1,
-)
+returns-2 c =
+    let m = meets (c .before) in
+    (run-false _ _ _ _ _ _ (m .before .before .before .loop .inv) _ (met m) (truth (c .before) ∙ not-true _ (c .if1 .taken)), c .before .before .value .ensures .1)
 
 add-at : tie.Need-add-at Inv-loop μ-loop
-add-at c = omega (arith, met (c .before .before .before .before .before) .within, c .before .before .before .before .before .before .before .before .before .before .before .good)
+add-at c = let m = meets (c .before) in omega (arith, met m .within, entry m .good)
 
 add-i : tie.Need-add-i Inv-loop μ-loop
-add-i c = omega (arith, c .before .before .before .before .before .before .before .before .loop .inv .reached, met (c .before .before .before .before .before) .within, c .before .before .before .before .before .before .before .before .before .before .before .good)
+add-i c = let m = meets (c .before) in omega (arith, m .before .before .before .loop .inv .reached, met m .within, entry m .good)
 
 loop-less : tie.Need-loop-less Inv-loop μ-loop
-loop-less c = omega (arith, met (c .before .before .before .before .before) .within)
+loop-less c = omega (arith, met (meets (c .before)) .within)
 
 loop-again : tie.Need-loop-again Inv-loop μ-loop
 loop-again c =
-    run-true _ _ _ _ _ _ (c .before .before .before .before .before .before .before .before .loop .inv) _ (met (c .before .before .before .before .before)) _ (c .before .before .value .ensures .1) (truth (c .before) ∙ not-false _ (c .if1 .left))
+    let m = meets (c .before) in
+    run-true _ _ _ _ _ _ (m .before .before .before .loop .inv) _ (met m) _ (c .before .before .value .ensures .1) (truth (c .before) ∙ not-false _ (c .if1 .left))
 
 pub first-false-spec : {M : Type 1} → statement M
 first-false-spec =

@@ -13,19 +13,26 @@ abbrev μ-loop : tie.MeasureT-loop
 μ-loop image budget sets₀ work₀ r₀ sets work r = ahead budget r
 
 front-requires : tie.Need-front-requires Inv-loop μ-loop
-front-requires c κs = let h = c .before .before .before .before .pre .0 in record { b = h .b; all = h .all; holds = h .holds; state = c .before .before .before .before .pre .1 }
+front-requires c κs = let p = c .before .before .before .before .pre in record { b = p .0 .b; all = p .0 .all; holds = p .0 .holds; state = p .1 }
 
 loop-holds : tie.Need-loop-holds Inv-loop μ-loop
 loop-holds c = (started _ _ _ _ _ _ (c .before .before .before .before .before .pre .0) (c .front .ensures), refl, refl, refl)
 
 step-requires : tie.Need-step-requires Inv-loop μ-loop
-step-requires c κs = (still-searching _ _ _ _ _ _ (c .before .before .before .before .loop .inv .0) (c .before .before .if1 .taken), c .before .before .if1 .taken)
+step-requires c κs = let node = c .before .before in (still-searching _ _ _ _ _ _ (node .before .before .loop .inv .0) (node .if1 .taken), node .if1 .taken)
 
 loop-less : tie.Need-loop-less Inv-loop μ-loop
-loop-less c = stepped-falls (still-searching _ _ _ _ _ _ (c .before .before .before .before .before .before .before .before .before .loop .inv .0) (c .before .before .before .before .before .before .before .if1 .taken)) (c .before .before .before .before .before .before .before .if1 .taken) (c .before .before .before .before .step .ensures)
+loop-less c =
+    let stepped = c .before .before .before .before in
+    let node = stepped .before .before .before in
+    stepped-falls (still-searching _ _ _ _ _ _ (node .before .before .loop .inv .0) (node .if1 .taken)) (node .if1 .taken) (stepped .step .ensures)
 
 loop-again : tie.Need-loop-again Inv-loop μ-loop
-loop-again c = (state-lower _ _ _ _ _ _ (c .before .before .before .before .step .ensures .next), c .before .before .before .before .step .kept .1 .1 .0 ∙ c .before .before .before .before .before .before .before .before .before .loop .inv .1, c .before .before .before .before .step .kept .1 .1 .1 .0 ∙ c .before .before .before .before .before .before .before .before .before .loop .inv .2, c .before .before .before .before .step .ensures .later ∙ c .before .before .before .before .before .before .before .before .before .loop .inv .3)
+loop-again c =
+    let stepped = c .before .before .before .before in
+    let h = stepped .step in
+    let i = stepped .before .before .before .before .before .loop .inv in
+    (state-lower _ _ _ _ _ _ (h .ensures .next), h .kept .1 .1 .0 ∙ i .1, h .kept .1 .1 .1 .0 ∙ i .2, h .ensures .later ∙ i .3)
 
 same-length : tie.Need-same-length Inv-loop μ-loop
 same-length c = c .before .before .loop .inv .1

@@ -8,22 +8,31 @@ mark-requires : tie.Need-mark-requires
 mark-requires c κs = join-markable _ _ _ _ (c .before .before .pre)
 
 taken-requires : tie.Need-taken-requires
-taken-requires c κs = join-fits _ _ _ _ (c .before .before .before .before .before .before .pre) _ _ (c .before .before .before .mark .ensures) (c .if1 .taken)
+taken-requires c κs = let m = c .before .before .before in join-fits _ _ _ _ (m .before .before .before .pre) _ _ (m .mark .ensures) (c .if1 .taken)
 
 returns : tie.Need-returns
-returns c = assumed-visited _ _ _ _ (c .before .before .before .before .before .before .before .before .pre) _ _ (c .before .before .before .before .before .mark .ensures) _ _ (c .before .before .if1 .taken) (c .before .taken .ensures) (c .turned .ensures)
+returns c =
+    let m = c .before .before .before .before .before in
+    assumed-visited _ _ _ _ (m .before .before .before .pre) _ _ (m .mark .ensures) _ _ (c .before .before .if1 .taken) (c .before .taken .ensures) (c .turned .ensures)
 
 returns-2 : tie.Need-returns-2
-returns-2 c = plain-visited _ _ _ _ (c .before .before .before .before .before .before .before .before .pre) _ _ (c .before .before .before .before .before .mark .ensures) _ (c .before .if2 .taken) (c .turned2 .ensures)
+returns-2 c =
+    let m = c .before .before .before .before .before in
+    plain-visited _ _ _ _ (m .before .before .before .pre) _ _ (m .mark .ensures) _ (c .before .if2 .taken) (c .turned2 .ensures)
 
 lay-requires : tie.Need-lay-requires
-lay-requires c κs = join-layable _ _ _ _ (c .before .before .before .before .before .before .before .before .before .pre) _ _ (c .before .before .before .before .before .before .mark .ensures)
+lay-requires c κs = let m = c .before .before .before .before .before .before in join-layable _ _ _ _ (m .before .before .before .pre) _ _ (m .mark .ensures)
 
 returns-3 : tie.Need-returns-3
-returns-3 c = denied-visited _ _ _ _ (c .before .before .before .before .before .before .before .before .before .before .before .before .before .pre) _ _ (c .before .before .before .before .before .before .before .before .before .before .mark .ensures) _ _ _ (c .before .before .before .before .before .before .if2 .left) (c .before .before .before .before .before .if3 .taken) (c .before .before .before .lay .ensures) (c .agenda-of .ensures)
+returns-3 c =
+    let denied = c .before .before .before .before .before in
+    let m = denied .before .before .before .before .before in
+    denied-visited _ _ _ _ (m .before .before .before .pre) _ _ (m .mark .ensures) _ _ _ (denied .before .if2 .left) (denied .if3 .taken) (c .before .before .before .lay .ensures) (c .agenda-of .ensures)
 
 returns-4 : tie.Need-returns-4
-returns-4 c = proved-visited _ _ _ _ (c .before .before .before .before .before .before .before .before .before .pre) _ _ (c .before .before .before .before .before .before .mark .ensures) _ (c .before .before .before .if1 .left) (c .before .if3 .left) (c .given .ensures)
+returns-4 c =
+    let m = c .before .before .before .before .before .before in
+    proved-visited _ _ _ _ (m .before .before .before .pre) _ _ (m .mark .ensures) _ (c .before .before .before .if1 .left) (c .before .if3 .left) (c .given .ensures)
 
 pub join-spec : {M : Type 1} → statement M
 join-spec =

@@ -6,40 +6,59 @@ use borrow.Author.Needs.{needs}
 use Rattle.tables.proofs.records.lay_rule.Statement.{statement}
 use Rattle.tables.proofs.records.lay_rule.Tie as tie
 
+-- from the record's link back to the alternatives' ways, and to the count of conditions
+abbrev altered : tie.After-lay-opposites → tie.After-lay-alternatives
+altered c = c .before .before .before .before .before
+
+abbrev conditions : tie.After-lay-alternatives → tie.After-field-at2
+conditions c = c .before .before
+
+abbrev entry : tie.After-field-at2 → tie.Start
+entry c = c .before .before .before .before
+
 -- what stands there
-counted : (m : tie.After-field-at2) → let a = m .before .before .before .before .args in
-    Counted (a .image .now) (a .work .now) (a .k) (a .place .at) (a .place .way) (m .before .before .before .before .pre) (m .field-at2 .result)
-counted m = rule-counted _ _ _ _ _ (m .before .before .before .before .pre) _ (m .field-at2 .ensures .0)
+counted : (c : tie.After-field-at2) → let a = entry c .args in Counted (a .image .now) (a .work .now) (a .k) (a .place .at) (a .place .way) (entry c .pre) (c .field-at2 .result)
+counted c = rule-counted _ _ _ _ _ (entry c .pre) _ (c .field-at2 .ensures .0)
 
 add-turn : tie.Need-add-turn
-add-turn c = let t = rule-there _ _ _ _ _ (c .before .before .before .before .pre) in let r = counted (c) in omega (arith, r .room, r .literals .there, r .literals .short, c .before .field-at .ensures .0)
+add-turn c = let r = counted c in omega arith
 
 add-turn-2 : tie.Need-add-turn-2
-add-turn-2 c = let t = rule-there _ _ _ _ _ (c .before .before .before .before .pre) in let r = counted (c) in omega (arith, r .room, r .literals .there, r .literals .short, c .before .field-at .ensures .0)
+add-turn-2 c = let r = counted c in omega arith
 
 add-middle : tie.Need-add-middle
-add-middle c = let t = rule-there _ _ _ _ _ (c .before .before .before .before .pre) in let r = counted (c) in omega (arith, r .room, r .literals .there, r .literals .short, c .before .field-at .ensures .0)
+add-middle c = let r = counted c in omega arith
 
 lay-alternatives-requires : tie.Need-lay-alternatives-requires
-lay-alternatives-requires c κs = lay-altering _ _ _ _ _ (c .before .before .before .before .before .pre) _ _ (c .before .before .field-at .ensures .0) (c .before .field-at2 .ensures .0) _ refl
+lay-alternatives-requires c κs = lay-altering _ _ _ _ _ (entry (c .before) .pre) _ _ (c .before .before .field-at .ensures .0) (c .before .field-at2 .ensures .0) _ refl
 
 link-to-requires : tie.Need-link-to-requires
-link-to-requires c κs = let t = rule-there _ _ _ _ _ (c .before .before .before .before .before .before .before .before .pre) in let r = counted (c .before .before .before .before) in omega (arith, r .room, r .literals .there, r .literals .short, c .before .before .before .before .before .field-at .ensures .0)
+link-to-requires c κs = counted (conditions (c .before .before)) .room
 
 add-lay-opposites : tie.Need-add-lay-opposites
-add-lay-opposites c = let t = rule-there _ _ _ _ _ (c .before .before .before .before .before .before .before .before .before .before .pre) in let r = counted (c .before .before .before .before .before .before) in omega (arith, r .room, r .literals .there, r .literals .short, c .before .before .before .before .before .before .before .field-at .ensures .0)
+add-lay-opposites c = let r = counted (conditions (c .before .before .before .before)) in omega arith
 
 lay-opposites-requires : tie.Need-lay-opposites-requires
-lay-opposites-requires c κs = let r = counted (c .before .before .before .before .before .before) in record { literals = r .literals; room = r .room; long = omega (arith, c .before .before .before .before .before .before .before .before .before .before .pre .long, c .before .before .before .before .lay-alternatives .ensures .size) }
+lay-opposites-requires c κs =
+    let l = c .before .before .before .before in
+    let r = counted (conditions l) in
+    record { literals = r .literals; room = r .room; long = omega (arith, entry (conditions l) .pre .long, l .lay-alternatives .ensures .size) }
 
 lay-record-requires : tie.Need-lay-record-requires
-lay-record-requires c κs = let t = rule-there _ _ _ _ _ (c .before .before .before .before .before .before .before .before .before .before .before .before .before .before .pre) in (omega (arith, t .few), omega (arith, c .before .before .before .before .before .before .before .before .before .before .before .before .before .before .pre .long, c .before .before .before .before .before .before .before .before .lay-alternatives .ensures .size, c .before .before .before .lay-opposites .ensures .size))
-
-same-length : tie.Need-same-length
-same-length c = lay-laid _ _ _ _ _ (c .before .before .before .before .before .before .before .before .before .before .before .before .before .before .before .before .before .pre) _ _ (c .before .before .before .before .before .before .before .before .before .before .before .before .before .before .field-at .ensures .0) (c .before .before .before .before .before .before .before .before .before .before .before .before .before .field-at2 .ensures .0) _ _ _ _ _ _ (c .before .before .before .before .before .before .before .before .before .before .before .lay-alternatives .ensures) (c .before .before .before .before .before .before .before .before .link-to .ensures) (c .before .before .before .before .before .before .lay-opposites .ensures) (c .before .before .lay-record .ensures) .size
+lay-record-requires c κs =
+    let o = c .before .before .before in
+    let p = entry (conditions (altered o)) .pre in
+    (omega (arith, rule-there _ _ _ _ _ p .few), omega (arith, p .long, altered o .lay-alternatives .ensures .size, o .lay-opposites .ensures .size))
 
 returns : tie.Need-returns
-returns c = lay-laid _ _ _ _ _ (c .before .before .before .before .before .before .before .before .before .before .before .before .before .before .before .before .before .pre) _ _ (c .before .before .before .before .before .before .before .before .before .before .before .before .before .before .field-at .ensures .0) (c .before .before .before .before .before .before .before .before .before .before .before .before .before .field-at2 .ensures .0) _ _ _ _ _ _ (c .before .before .before .before .before .before .before .before .before .before .before .lay-alternatives .ensures) (c .before .before .before .before .before .before .before .before .link-to .ensures) (c .before .before .before .before .before .before .lay-opposites .ensures) (c .before .before .lay-record .ensures)
+returns c =
+    let o = c .before .before .before .before .before .before in
+    let n = conditions (altered o) in
+    lay-laid _ _ _ _ _ (entry n .pre) _ _ (n .before .field-at .ensures .0) (n .field-at2 .ensures .0) _ _ _ _ _ _
+    (altered o .lay-alternatives .ensures) (o .before .before .link-to .ensures) (o .lay-opposites .ensures) (c .before .before .lay-record .ensures)
+
+same-length : tie.Need-same-length
+same-length c = returns c .size
 
 pub lay-rule-spec : {M : Type 1} → statement M
 lay-rule-spec =
