@@ -15,11 +15,11 @@ use Rattle.sets.specs.Kept.{zeros, sort, sort-length}
 use Rattle.searching.specs.Rules.{root, Outcome, finished, used-up, no-room, run-from, sent, listing}
 use Rattle.searching.specs.Main.{Explanations, listed}
 use Rattle.tables.specs.Clauses.{IsBook}
+use Rattle.machine.specs.declared.run.Run.{Run}
 use Rattle.lister.specs.declared.Asked.{Asked}
 use Rattle.lister.specs.declared.Asked.the-variants.{Turned, Search}
 use Rattle.lister.specs.declared.Listing.{Listing}
 use Rattle.lister.specs.declared.Listing.the-variants.{Listed, Refused}
-use Rattle.lister.specs.declared.run.Run.{Run}
 use Rattle.lister.specs.Promise.{Result, turned, searched, byBook, resultOf, answerOf, setsOf, workOf, Explained, Lists}
 
 -- ---- a search's results

@@ -18,10 +18,10 @@ use Rattle.book.specs.declared.Reading.the-variants.{Accepted, Refused as Turne
 use Rattle.sets.specs.Kept.{zeros, sort, sort-length}
 use Rattle.searching.specs.Rules.{Node, root, children, noting, Outcome, finished, used-up, no-room, run, run-from}
 use Rattle.tables.specs.Clauses.{IsBook}
+use Rattle.machine.specs.declared.run.Run.{Run}
+use Rattle.machine.specs.Steps.{Searching, Ending, all-visited, out-of-budget, out-of-room, Stopped}
+use Rattle.machine.specs.Start.{Started}
 use Rattle.lister.specs.declared.Listing.the-variants.{Listed, Refused}
-use Rattle.lister.specs.declared.run.Run.{Run}
-use Rattle.lister.specs.Steps.{Searching, Ending, all-visited, out-of-budget, out-of-room, Stopped}
-use Rattle.lister.specs.Start.{Started}
 use Rattle.lister.specs.PromiseLaws.{Searched, searched-all, searched-short, searched-full}
 
 -- ---- what the reader's answer says

@@ -1,12 +1,4 @@
-// The lister: document 01's search rules, run on the image as lent. The agenda, the marks and the frames of the search live in
-// the lent work area, beside the tables (tables/src/area has the layout), the kept sets in the front of the lent list.
-pub mod agenda;
-pub mod run;
-pub mod search;
-pub mod start;
-pub mod visit;
-pub mod ways;
-
+// The lister: the tests before any search, the search, and the list in order.
 use book::Reading;
 ghost use lib.ListN.{length};
 ghost use Rattle.lister.specs.Promise.{Lists};
@@ -65,8 +57,8 @@ pub fn list_book(image: &[u8], budget: u32, sets: &mut [u64], work: &mut [u32]) 
     requires { ⌜ Admitted (now image) budget (length (now sets)) (length (now work)) ⌝ }
     ensures { λ r. ⌜ Lists (now (image .entry)) budget (now (sets .entry)) (now (work .entry)) r (now (sets .exit)) (now (work .exit)) ⌝ }
 {
-    let root = start::start(image, work);
-    let r = search::walk_on(image, budget as usize, sets, work, root);
+    let root = machine::start::start(image, work);
+    let r = machine::search::walk_on(image, budget as usize, sets, work, root);
     tables::area::wipe(work, SPACE);
     let state = r.state;
     let count = r.count;

@@ -1,0 +1,43 @@
+-- `machine::ways::choose` meets its contract. Assumes nothing.
+use native.Mathlib.Omega.{arith}
+use Rattle.machine.specs.Ways.{chain-places, chain-pushable, chosen-single, chosen-pushed}
+use borrow.Author.Needs.{needs}
+use Rattle.machine.proofs.ways.choose.Statement.{statement}
+use Rattle.machine.proofs.ways.choose.Tie as tie
+
+add-word : tie.Need-add-word
+add-word c = omega (arith, chain-places _ _ (c .before .before .pre) .0)
+
+word-requires : tie.Need-word-requires
+word-requires c κs = let p = chain-places _ _ (c .before .before .pre) in omega (arith, p .0, p .1)
+
+word-requires-2 : tie.Need-word-requires-2
+word-requires-2 c κs = let p = chain-places _ _ (c .before .before .before .before .before .pre) in omega (arith, p .0, p .1)
+
+returns : tie.Need-returns
+returns c = chosen-single _ _ (c .before .before .before .before .before .before .before .pre) _ _ _ (c .before .before .before .before .word .ensures .0) (c .before .word2 .ensures .0) (c .before .before .before .if1 .taken) (c .given .ensures)
+
+push-requires : tie.Need-push-requires
+push-requires c κs = (chain-pushable _ _ (c .before .before .before .before .before .pre), c .before .before .word .ensures .1)
+
+word-requires-3 : tie.Need-word-requires-3
+word-requires-3 c κs = let p = chain-places _ _ (c .before .before .before .before .before .before .before .before .before .pre) in omega (arith, p .0, p .1, c .before .before .before .push .kept .0)
+
+returns-2 : tie.Need-returns-2
+returns-2 c = chosen-pushed _ _ (c .before .before .before .before .before .before .before .before .before .before .before .pre) _ _ _ _ _ (c .before .before .before .before .before .before .before .before .word .ensures .0) (c .before .word3 .ensures .0) (c .before .before .before .before .before .before .before .if1 .left) (c .before .before .before .before .before .push .ensures) (c .given2 .ensures)
+
+pub choose-spec : {M : Type 1} → statement M
+choose-spec =
+    tie.close
+    (tie.spec
+    add-word
+    word-requires
+    word-requires-2
+    (λ c κs. search needs)
+    (λ c. search needs)
+    returns
+    push-requires
+    word-requires-3
+    (λ c κs. search needs)
+    (λ c. search needs)
+    returns-2)
