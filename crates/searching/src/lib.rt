@@ -1,1 +1,1 @@
-// The search for all smallest explanations. Its rules and theorems stand in specs/; the lister follows.
+// The search for all smallest explanations. Its rules and theorems stand in specs/; the machine follows them.

@@ -12,7 +12,10 @@ returns : tie.Need-returns
 returns c = picked-none _ _ (c .before .before .before .before .before .pre .0) (c .before .before .before .before .before .pre .1) _ _ (c .before .before .word .ensures .0) _ (c .before .if1 .taken) (c .turned .ensures)
 
 returns-2 : tie.Need-returns-2
-returns-2 c = picked-success _ _ (c .before .before .before .before .before .before .before .before .before .pre .0) (c .before .before .before .before .before .before .before .before .before .pre .1) _ _ (c .before .before .before .before .before .before .word .ensures .0) _ _ (c .before .before .before .before .if2 .taken) (c .before .before .note .ensures)
+returns-2 c =
+    let last = c .before .before .before .before in
+    let p = last .before .before .before .before .before .pre in
+    picked-success _ _ (p .0) (p .1) _ _ (last .before .before .word .ensures .0) _ _ (last .if2 .taken) (c .before .before .note .ensures)
 
 returns-3 : tie.Need-returns-3
 returns-3 c = picked-ways _ _ (c .before .before .before .before .before .before .pre .0) (c .before .before .before .before .before .before .pre .1) _ _ (c .before .before .before .word .ensures .0) _ (c .before .before .if1 .left) (c .before .if2 .left) (c .given .ensures)

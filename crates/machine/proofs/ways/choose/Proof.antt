@@ -21,10 +21,16 @@ push-requires : tie.Need-push-requires
 push-requires c κs = (chain-pushable _ _ (c .before .before .before .before .before .pre), c .before .before .word .ensures .1)
 
 word-requires-3 : tie.Need-word-requires-3
-word-requires-3 c κs = let p = chain-places _ _ (c .before .before .before .before .before .before .before .before .before .pre) in omega (arith, p .0, p .1, c .before .before .before .push .kept .0)
+word-requires-3 c κs =
+    let pushed = c .before .before .before in
+    let p = chain-places _ _ (pushed .before .before .before .before .before .before .pre) in
+    omega (arith, p .0, p .1, pushed .push .kept .0)
 
 returns-2 : tie.Need-returns-2
-returns-2 c = chosen-pushed _ _ (c .before .before .before .before .before .before .before .before .before .before .before .pre) _ _ _ _ _ (c .before .before .before .before .before .before .before .before .word .ensures .0) (c .before .word3 .ensures .0) (c .before .before .before .before .before .before .before .if1 .left) (c .before .before .before .before .before .push .ensures) (c .given2 .ensures)
+returns-2 c =
+    let pushed = c .before .before .before .before .before in
+    let more = pushed .before .before in
+    chosen-pushed _ _ (more .before .before .before .before .pre) _ _ _ _ _ (more .before .word .ensures .0) (c .before .word3 .ensures .0) (more .if1 .left) (pushed .push .ensures) (c .given2 .ensures)
 
 pub choose-spec : {M : Type 1} → statement M
 choose-spec =
