@@ -1,7 +1,7 @@
 -- What `verdict_on` promises, after document 01, "Judge, verdict, joiner": it lists first and passes on any refusal; then it decides
 -- by the list.
 -- Assumes nothing.
-use Prim.Native.Nat.{ℕ, _-_}
+use Prim.Native.Nat.{ℕ}
 use mathlib.Core.Path.{_≡_, refl, sym, _∙_}
 use mathlib.Core.Bool.{Bool, true, false}
 use mathlib.Core.List.{List, [], _∷_}
@@ -17,7 +17,6 @@ use Rattle.judging.specs.Meaning.{explains, Smallest}
 use Rattle.searching.specs.Rules.{finished, used-up, no-room}
 use Rattle.searching.specs.Main.{Explanations, explanations-none}
 use Rattle.lister.specs.Promise.{Result, turned, searched, resultOf, setsOf, workOf}
-use Rattle.lister.specs.declared.Listing.the-variants as listing
 use Rattle.engine.specs.declared.Verdict.{Verdict}
 use Rattle.engine.specs.declared.Verdict.the-variants.{Unexplained, Needed, Possible, RuledOut, Refused}
 

@@ -1,7 +1,7 @@
 -- The lister's promise: its answer, every entry of the list and every number of the work area, on all inputs; and that what it lists is
 -- right by the meaning. Lines in quotation marks are document 01's.
 -- Assumes nothing.
-use Prim.Native.Nat.{ℕ, _+_, _-_}
+use Prim.Native.Nat.{ℕ, _-_}
 use mathlib.Core.Path.{_≡_, sym, _∙_}
 use mathlib.Core.List.{List, _++_}
 use lib.Dec.{ltb}

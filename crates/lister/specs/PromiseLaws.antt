@@ -1,6 +1,6 @@
 -- The ways to a listing: what the tests before any search say, and what a search leaves.
 -- Assumes nothing.
-use Prim.Native.Nat.{ℕ, _+_, _-_, _≤_, _<_}
+use Prim.Native.Nat.{ℕ, _-_, _≤_, _<_}
 use native.Mathlib.Omega.{arith}
 use mathlib.Core.Path.{_≡_, refl, sym, ap, ap₂, subst, _∙_}
 use mathlib.Core.List.{List, _++_}
@@ -75,29 +75,27 @@ module _ (image : List ℕ) (budget : ℕ) (old work : List ℕ) (kept : List �
         work = u;
       }
 
-  pub searched-short : (sets′ work′ : List ℕ) → run-from b (length kept) budget (root b) ≡ used-up (r .nodes) → sets′ ≡ zeros (length kept)
-      → work′ ≡ zeros 16384 ++ drop 16384 work → Searched image budget old work (Refused 30 (r .nodes)) sets′ work′
-  searched-short sets′ work′ p t u =
-      let o : listing b (length old) budget ≡ used-up (r .nodes) = outcome-at (used-up (r .nodes)) p in
+  -- a search that ends without a list
+  none-listed : (o : Outcome) {a : Listing} {sets′ work′ : List ℕ} → run-from b (length kept) budget (root b) ≡ o → a ≡ answerOf (searched (sent o))
+      → zeros (length old) ≡ setsOf (searched (sent o)) old → sets′ ≡ zeros (length kept) → work′ ≡ zeros 16384 ++ drop 16384 work
+      → Searched image budget old work a sets′ work′
+  none-listed o p a z t u =
+      let q : listing b (length old) budget ≡ sent o = outcome-at o p in
       record {
         b = b;
         book = e;
-        answer = ap (λ (x : Outcome). answerOf (searched x)) (sym o);
-        sets = t ∙ ap zeros same ∙ ap (λ (x : Outcome). setsOf (searched x) old) (sym o);
+        answer = a ∙ ap (λ (x : Outcome). answerOf (searched x)) (sym q);
+        sets = t ∙ ap zeros same ∙ z ∙ ap (λ (x : Outcome). setsOf (searched x) old) (sym q);
         work = u;
       }
 
+  pub searched-short : (sets′ work′ : List ℕ) → run-from b (length kept) budget (root b) ≡ used-up (r .nodes) → sets′ ≡ zeros (length kept)
+      → work′ ≡ zeros 16384 ++ drop 16384 work → Searched image budget old work (Refused 30 (r .nodes)) sets′ work′
+  searched-short sets′ work′ p t u = none-listed (used-up (r .nodes)) p refl refl t u
+
   pub searched-full : (sets′ work′ : List ℕ) → run-from b (length kept) budget (root b) ≡ no-room (r .nodes) → sets′ ≡ zeros (length kept)
       → work′ ≡ zeros 16384 ++ drop 16384 work → Searched image budget old work (Refused 31 (r .nodes)) sets′ work′
-  searched-full sets′ work′ p t u =
-      let o : listing b (length old) budget ≡ no-room (r .nodes) = outcome-at (no-room (r .nodes)) p in
-      record {
-        b = b;
-        book = e;
-        answer = ap (λ (x : Outcome). answerOf (searched x)) (sym o);
-        sets = t ∙ ap zeros same ∙ ap (λ (x : Outcome). setsOf (searched x) old) (sym o);
-        work = u;
-      }
+  searched-full sets′ work′ p t u = none-listed (no-room (r .nodes)) p refl refl t u
 
 -- ---- the ways to a result
 

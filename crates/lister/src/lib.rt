@@ -63,7 +63,7 @@ pub fn list_book(image: &[u8], budget: u32, sets: &mut [u64], work: &mut [u32]) 
     let state = r.state;
     let count = r.count;
     let nodes = r.nodes as u32;
-    if state == 1 {
+    if state == machine::run::OVER {
         sets::order::order(sets, count);
         sets::lists::clear(sets, count);
         return Listing::Listed(count as u32, nodes);

@@ -18,7 +18,6 @@ use Rattle.machine.specs.Machine.{Hand, literal, record-at, last, agenda
 use Rattle.machine.specs.Pieces.{turning, counting, noting}
 use Rattle.machine.specs.Node.{counting-holds}
 use Rattle.machine.specs.Steps.{Standing, Moved, Stands, Moves, Backed, back-to, over, Visited, Tasked, Success, Noted, inserted, full, Went, visits, Searching, Ending, all-visited, out-of-budget, out-of-room, State, goes-on, ended, Somewhere, Passes, Stepped, ahead, Stopped}
-use Rattle.machine.specs.Steps
 
 -- ---- the rules' search, one node at a time
 

@@ -1,4 +1,4 @@
-// A node: the task in hand is visited.
+// What a node does with the task in hand: a literal is wanted, a record is picked, a success is noted.
 use super::agenda::lay;
 use super::run::AGENDA;
 use super::run::FAILED;

@@ -10,8 +10,6 @@ use lib.Dec.{ltb}
 use lib.ListN.{length}
 use Rattle.base.specs.Bools.{clash, decide, either, either-left, either-right}
 use Rattle.base.specs.Lists.{_∈_, ∈-left, ∈-right, ∈-split}
-use Rattle.base.specs.Order
-use Rattle.base.specs.Least
 use Rattle.sets.specs.Sets.{Proper}
 use Rattle.sets.specs.Kept.{smallest-proper, smallest, sort, smallest-members, smallest-once, sort-members, sort-ordered, ordered-once, ordered-unique}
 use Rattle.sets.specs.declared.Joined.{Joined}

@@ -241,7 +241,7 @@ pub record ClausesLaid (s w : List ℕ) (v : List ℕ) (c at way : ℕ) : Type 0
   pub tables : (i : ℕ) → i < c → ClauseTable s (bookOf s) v i
   pub stays : (j : ℕ) → (768 ≤ j → j < 1792 → ⊥) → (2440 ≤ j → j < 7560 → ⊥) → getD v j 0 ≡ getD w j 0
 
-pub table-same : (s : List ℕ) (b : Book) (w v : List ℕ) (i : ℕ) → ClauseTable s b w i → getD v (2440 + 2 * i) 0 ≡ getD w (2440 + 2 * i) 0 → getD v (2440 + 2 * i + 1) 0 ≡ getD w (2440 + 2 * i + 1) 0
+table-same : (s : List ℕ) (b : Book) (w v : List ℕ) (i : ℕ) → ClauseTable s b w i → getD v (2440 + 2 * i) 0 ≡ getD w (2440 + 2 * i) 0 → getD v (2440 + 2 * i + 1) 0 ≡ getD w (2440 + 2 * i + 1) 0
     → getD v (768 + 2 * i) 0 ≡ getD w (768 + 2 * i) 0 → ((j : ℕ) → clauseWay b i ≤ j → j < clauseWay b (i + 1) → getD v j 0 ≡ getD w j 0) → ClauseTable s b v i
 table-same s b w v i t p q r f = record {
   listed = subst (λ (n : ℕ). Listed s (λ j. 0) n (getD (b .clauses) i noClause .body)) (sym p) (t .listed);
