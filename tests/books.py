@@ -1,7 +1,7 @@
 """Books that several tables of stored cases use.
 
-Shares no code with the engine. DEEPEST and FULLEST were chosen to fill the
-longest path and the most frames; the others come from the specification alone.
+Shares no code with the engine. DEEPEST, FULLEST and MOST_OPEN were chosen to fill
+the longest path, the marks and the frames; the others come from the specification alone.
 The books of P5 and P6 are examples 5 and 6 of the document that the
 specification names for its meaning.
 """
@@ -57,6 +57,9 @@ FULLEST = image(
         [f"a{16 + 8 * k + j}" for j in range(8)] if k < 6 else [f"d{8 * (k - 6) % 192 + j}" for j in range(8)]
         for k in range(128)))
 )
+
+# The most that one path can leave open: 512 clauses to break and 128 constraints, each with a second way, which fails.
+MOST_OPEN = image("abducible a b; goal b -y" + "; y <- a b" * 512 + "; a b ->" * 128)
 
 
 def pairs(count):
