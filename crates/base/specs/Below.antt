@@ -4,17 +4,14 @@ use Prim.Native.Nat.{ℕ, zero, suc, _+_, _≤_, _<_}
 use native.Mathlib.Omega.{arith}
 use mathlib.Core.Path.{_≡_, refl, ap}
 use mathlib.Core.Bool.{Bool, true, false}
-use mathlib.Core.List.{List, [], _∷_, List·Memᴰ·head}
+use mathlib.Core.List.{_∷_, List·Memᴰ·head}
 use borrow.Author.Tests.{eqb-true, eqb-false, ne-eqb}
 use lib.Dec.{eqb}
 use lib.ListN.{length}
-use Rattle.base.specs.Bools.{choose, choose-false}
-use Rattle.base.specs.Lists.{_∈_, there, sum}
-
--- the numbers below n
-unfoldable pub below : ℕ → List ℕ
-below zero = []
-below (suc n) = n ∷ below n
+use Rattle.base.specs.paper.Bools.{choose}
+use Rattle.base.specs.Bools.{choose-false}
+use Rattle.base.specs.paper.Lists.{_∈_, sum, below}
+use Rattle.base.specs.Lists.{there}
 
 pub below-in : (n p : ℕ) → p < n → p ∈ below n
 unfolding below

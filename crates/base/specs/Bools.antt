@@ -1,13 +1,9 @@
--- Tests: a Boolean is read as the statement that it is `true`. Each connective has its two ways.
+-- Laws of tests: a Boolean is read as the statement that it is `true`. Each connective has its two ways.
 -- Assumes nothing.
 use mathlib.Core.Path.{_≡_, refl, sym, _∙_}
 use mathlib.Core.Bool.{Bool, true, false, _&&_, _||_, true≢false}
 use mathlib.Core.Logic.{_⊎_, inl, inr}
-
--- the one where the test holds, else the other
-abbrev pub choose {ℓ} : {A : Type ℓ} → Bool → A → A → A
-choose true a b = a
-choose false a b = b
+use Rattle.base.specs.paper.Bools.{choose}
 
 pub decide : (t : Bool) → (t ≡ true) ⊎ (t ≡ false)
 decide true = inl refl

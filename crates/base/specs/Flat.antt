@@ -6,7 +6,8 @@ use mathlib.Core.List.{List, [], _∷_, _++_, map, append-assoc, List·Memᴰ·c
 use Prim.Native.Nat.{ℕ, suc, _+_, _≤_}
 use native.Mathlib.Omega.{arith}
 use lib.ListN.{length}
-use Rattle.base.specs.Lists.{_∈_, here, there, ∈-left, ∈-right, ∈-split, Every, Some, flat, sum}
+use Rattle.base.specs.paper.Lists.{_∈_, Every, flat, sum}
+use Rattle.base.specs.Lists.{Some, here, there, ∈-left, ∈-right, ∈-split}
 
 pub ∈-map : {A B : Type 0} (f : A → B) {a : A} {l : List A} → a ∈ l → f a ∈ map f l
 ∈-map f m = Memᴰ·map f m

@@ -1,4 +1,4 @@
--- The smallest of a family, kept one after the other, over any order `inside`.
+-- Laws of the smallest of a family, over any order `inside`: what inserting keeps, and that it keeps exactly the smallest.
 -- Assumes nothing.
 use mathlib.Core.Path.{_≡_, refl, sym, ap, subst, _∙_}
 use mathlib.Core.Bool.{Bool, true, false, not}
@@ -8,22 +8,23 @@ use Prim.Native.Nat.{suc, _+_, _≤_}
 use native.Mathlib.Omega.{arith}
 use borrow.Author.Tests.{not-true}
 use lib.ListN.{length, length-append}
-use Rattle.base.specs.Bools.{choose, clash}
-use Rattle.base.specs.Lists.{_∈_, here, there, ∈-left, ∈-right, ∈-split, Every, Some, any, any-some, some-any}
-use Rattle.base.specs.Parts.{filter, filter-has, filter-from, filter-length, Pairwise, pairwise-filter, pairwise-last, Once}
+use Rattle.base.specs.paper.Bools.{choose}
+use Rattle.base.specs.Bools.{clash}
+use Rattle.base.specs.paper.Least as defs
+use Rattle.base.specs.paper.Lists.{_∈_, Every, any, filter, Pairwise, Once}
+use Rattle.base.specs.Lists.{Some, here, there, ∈-left, ∈-right, ∈-split, any-some, some-any}
+use Rattle.base.specs.Parts.{filter-has, filter-from, filter-length, pairwise-filter, pairwise-last}
 
 module _ {ℓ} {A : Type ℓ} (inside : A → A → Bool) where
-  -- If a kept one is inside s, nothing changes. Otherwise those that contain s are dropped and s joins.
-  unfoldable pub insert : List A → A → List A
-  insert kept s = choose (any (λ k. inside k s) kept) kept (filter (λ k. not (inside s k)) kept ++ s ∷ [])
+  abbrev insert : List A → A → List A
+  insert = defs.insert inside
 
-  -- the members of a list inserted one after the other
-  unfoldable pub smallest : List A → List A
-  smallest l = foldl insert [] l
+  abbrev smallest : List A → List A
+  smallest = defs.smallest inside
 
   -- x is in the family, and whatever of the family is inside x is x itself
-  abbrev pub Smallest {κ} : (A → Type κ) → A → Type (ℓ ⊔ κ)
-  Smallest P x = P x × ((y : A) → P y → inside y x ≡ true → y ≡ x)
+  abbrev pub LeastOf {κ} : (A → Type κ) → A → Type (ℓ ⊔ κ)
+  LeastOf P x = P x × ((y : A) → P y → inside y x ≡ true → y ≡ x)
 
   -- neither is inside the other
   abbrev pub Separate : A → A → Type 0
@@ -48,7 +49,7 @@ module _ {ℓ} {A : Type ℓ} (inside : A → A → Bool) where
 
   -- at most one more is kept
   pub length-insert : (kept : List A) (s : A) → length (insert kept s) ≤ suc (length kept)
-  unfolding insert
+  unfolding defs.insert
   length-insert kept s = go (any (λ k. inside k s) kept)
     where
       go : (t : Bool) → length (choose t kept (filter (λ k. not (inside s k)) kept ++ s ∷ [])) ≤ suc (length kept)
@@ -81,7 +82,7 @@ module _ {ℓ} {A : Type ℓ} (inside : A → A → Bool) where
 
     -- inserting adds one to the family
     pub insert-least {κ} : {P : A → Type κ} (kept : List A) (s : A) → Least P kept → Least (λ x. P x ⊎ (x ≡ s)) (insert kept s)
-    unfolding insert
+    unfolding defs.insert
     insert-least {P = P} kept s least = go (any (λ k. inside k s) kept) refl
       where
         rest : List A
@@ -137,7 +138,7 @@ module _ {ℓ} {A : Type ℓ} (inside : A → A → Bool) where
         back x (inr m) = ⊎-elim (λ (e : x ≡ s). inl (inr e)) (λ (n : x ∈ l). inr n) (List·Memᴰ·cases-cons m)
 
     pub smallest-least : (l : List A) → Least (λ x. x ∈ l) (smallest l)
-    unfolding smallest
+    unfolding defs.smallest
     smallest-least l =
         least-same (λ x. (λ w. ⊎-elim (λ (m : x ∈ []). absurd (List·Memᴰ·not-nil m)) (λ (m : x ∈ l). m) w, λ m. inr m))
         (inserted-least l [] none)
@@ -155,10 +156,10 @@ module _ {ℓ} {A : Type ℓ} (inside : A → A → Bool) where
 
     module _ (antisymmetric : (a b : A) → inside a b ≡ true → inside b a ≡ true → a ≡ b) where
       -- the kept ones are exactly the smallest of the family
-      pub least-members {κ} : {P : A → Type κ} {kept : List A} → Least P kept → (x : A) → x ∈ kept ↔ Smallest P x
+      pub least-members {κ} : {P : A → Type κ} {kept : List A} → Least P kept → (x : A) → x ∈ kept ↔ LeastOf P x
       least-members {P = P} {kept = kept} least x = (to, back)
         where
-          to : x ∈ kept → Smallest P x
+          to : x ∈ kept → LeastOf P x
           to m = (least .from x m, λ y p h. below y h (least .under y p))
             where
               below : (y : A) → inside y x ≡ true → Some (λ k. inside k y ≡ true) kept → y ≡ x
@@ -166,13 +167,13 @@ module _ {ℓ} {A : Type ℓ} (inside : A → A → Bool) where
                   let e : u .0 ≡ x = apart-same kept (least .apart) (u .1) m (transitive (u .0) y x (u .2) h) in
                   antisymmetric y x h (subst (λ (z : A). inside z y ≡ true) e (u .2))
 
-          back : Smallest P x → x ∈ kept
+          back : LeastOf P x → x ∈ kept
           back w =
               let u = least .under x (w .0) in
               subst (λ (z : A). z ∈ kept) (w .1 (u .0) (least .from (u .0) (u .1)) (u .2)) (u .1)
 
       -- inserting the members of a list keeps exactly its smallest members, once each
-      pub smallest-members : (l : List A) (x : A) → x ∈ smallest l ↔ Smallest (λ y. y ∈ l) x
+      pub smallest-members : (l : List A) (x : A) → x ∈ smallest l ↔ LeastOf (λ y. y ∈ l) x
       smallest-members l x = least-members (smallest-least l) x
 
       pub smallest-once : (l : List A) → Once (smallest l)

@@ -1,19 +1,21 @@
--- Lists: membership, what holds of every or of some member, the tests of both, sums, and lists of lists laid flat.
+-- Laws of lists: membership, what holds of every or of some member, the tests of both; and how many stand before the first that passes a test.
 -- Assumes nothing.
 use mathlib.Core.Path.{_≡_, refl, sym, subst}
-use mathlib.Core.Bool.{Bool, true, false, _&&_, _||_}
+use mathlib.Core.Bool.{Bool, true, false, _||_}
 use mathlib.Core.Logic.{_⊎_, ⊎-elim}
-use mathlib.Core.List.{List, [], _∷_, _++_, List·Memᴰ, List·Memᴰ·head, List·Memᴰ·tail, List·Memᴰ·cases-cons, List·Memᴰ·not-nil, List·Memᴰ·append-cases, Memᴰ·append-left, Memᴰ·append-right}
+use mathlib.Core.List.{List, [], _∷_, _++_, List·Memᴰ·head, List·Memᴰ·tail, List·Memᴰ·cases-cons, List·Memᴰ·not-nil, List·Memᴰ·append-cases, Memᴰ·append-left, Memᴰ·append-right}
 use Prim.Native.Nat.{ℕ, suc, _+_, _≤_}
 use native.Mathlib.Omega.{arith}
 use lib.ListN.{length}
-use Rattle.base.specs.Bools.{choose, both, both-left, both-right, either, either-left, either-right, clash}
-
-infix 25 _∈_
-abbrev pub _∈_ {ℓ} : {A : Type ℓ} → A → List A → Type ℓ
-a ∈ l = List·Memᴰ a l
+use Rattle.base.specs.paper.Bools.{choose}
+use Rattle.base.specs.Bools.{both, both-left, both-right, either, either-left, either-right, clash}
+use Rattle.base.specs.paper.Lists.{_∈_, Every, all, any}
 
 module _ {ℓ} {A : Type ℓ} where
+  -- P holds of some member
+  abbrev pub Some {κ} : (A → Type κ) → List A → Type (ℓ ⊔ κ)
+  Some P l = (a : A) × a ∈ l × P a
+
   pub here : {a : A} {l : List A} → a ∈ a ∷ l
   here = List·Memᴰ·head refl
 
@@ -28,14 +30,6 @@ module _ {ℓ} {A : Type ℓ} where
 
   pub ∈-split : {a : A} (s : List A) {t : List A} → a ∈ s ++ t → (a ∈ s) ⊎ (a ∈ t)
   ∈-split s m = List·Memᴰ·append-cases s m
-
-  -- P holds of every member
-  abbrev pub Every {κ} : (A → Type κ) → List A → Type (ℓ ⊔ κ)
-  Every P l = (a : A) → a ∈ l → P a
-
-  -- P holds of some member
-  abbrev pub Some {κ} : (A → Type κ) → List A → Type (ℓ ⊔ κ)
-  Some P l = (a : A) × a ∈ l × P a
 
 pub every-none {ℓ κ} : {A : Type ℓ} (P : A → Type κ) → Every P []
 every-none P a m = absurd (List·Memᴰ·not-nil m)
@@ -60,16 +54,6 @@ module _ {ℓ κ} {A : Type ℓ} {P : A → Type κ} where
   every-right s p b m = p b (∈-right s m)
 
 module _ {ℓ} {A : Type ℓ} where
-  -- the test that t holds of every member
-  abbrev pub all : (A → Bool) → List A → Bool
-  all t [] = true
-  all t (a ∷ l) = t a && all t l
-
-  -- the test that t holds of some member
-  abbrev pub any : (A → Bool) → List A → Bool
-  any t [] = false
-  any t (a ∷ l) = t a || any t l
-
   pub all-every : (t : A → Bool) (l : List A) → all t l ≡ true → Every (λ (a : A). t a ≡ true) l
   all-every t [] p = every-none (λ (a : A). t a ≡ true)
   all-every t (a ∷ l) p = every-more (both-left (t a) (all t l) p) (all-every t l (both-right (t a) (all t l) p))
@@ -124,13 +108,3 @@ module _ {ℓ} {A : Type ℓ} where
           → choose b 0 (suc (ahead t (s ++ u))) ≡ suc (length s) + ahead t u
       go true q h = clash refl q
       go false q h = omega (arith, h q)
-
-  -- lists one after the other
-  abbrev pub flat {κ} : {B : Type κ} → (B → List A) → List B → List A
-  flat f [] = []
-  flat f (b ∷ l) = f b ++ flat f l
-
-  -- the sum of what each member weighs
-  abbrev pub sum : (A → ℕ) → List A → ℕ
-  sum w [] = 0
-  sum w (a ∷ l) = w a + sum w l

@@ -1,4 +1,4 @@
--- Parts of a list: the members that pass a test, what holds of each member and each later one, and a list laid over another.
+-- Laws of parts of a list: the members that pass a test, and what holds of each member and each later one; a list laid over another.
 -- Assumes nothing.
 use mathlib.Core.Path.{_≡_, refl, sym, ap, subst}
 use mathlib.Core.Bool.{Bool, true, false, not}
@@ -8,20 +8,12 @@ use Prim.Native.Nat.{suc, _≤_}
 use native.Mathlib.Nat.{le-of-suc-le-suc, not-suc-le-zero}
 use native.Mathlib.Omega.{arith}
 use lib.ListN.{length, take, drop}
-use Rattle.base.specs.Bools.{choose, clash}
-use Rattle.base.specs.Lists.{_∈_, there, Every, every-none, every-more, every-first, every-rest, every-both, every-left, every-right, ahead}
+use Rattle.base.specs.paper.Bools.{choose}
+use Rattle.base.specs.Bools.{clash}
+use Rattle.base.specs.paper.Lists.{_∈_, Every, put, filter, Pairwise}
+use Rattle.base.specs.Lists.{there, every-none, every-more, every-first, every-rest, every-both, every-left, every-right, ahead}
 
 module _ {ℓ} {A : Type ℓ} where
-  -- a in front of the list, where the test holds
-  abbrev pub put : Bool → A → List A → List A
-  put true a l = a ∷ l
-  put false a l = l
-
-  -- the members that pass the test, in their order
-  abbrev pub filter : (A → Bool) → List A → List A
-  filter t [] = []
-  filter t (a ∷ l) = put (t a) a (filter t l)
-
   -- a member that passes stays
   pub filter-has : (t : A → Bool) (l : List A) {x : A} → x ∈ l → t x ≡ true → x ∈ filter t l
   filter-has t [] m p = absurd (List·Memᴰ·not-nil m)
@@ -66,15 +58,6 @@ module _ {ℓ} {A : Type ℓ} where
           ≡ take (choose b 0 (suc (ahead t l))) (a ∷ l) ++ filter (λ a. not (t a)) (drop (choose b 0 (suc (ahead t l))) (a ∷ l))
       go true e h = sym (rw e)
       go false e h = ap (λ (m : List A). a ∷ m) h
-
-  -- R holds of each member and each later one
-  abbrev pub Pairwise {κ} : (A → A → Type κ) → List A → Type (ℓ ⊔ κ)
-  Pairwise R [] = Unit
-  Pairwise R (a ∷ l) = Every (R a) l × Pairwise R l
-
-  -- no member is named twice
-  abbrev pub Once : List A → Type ℓ
-  Once l = Pairwise (λ a b. a ≡ b → ⊥) l
 
   -- the new list laid over the old from the front, as far as the old one reaches
   abbrev pub lay : List A → List A → List A

@@ -9,7 +9,8 @@ use native.Mathlib.Numerals.{add-one}
 use native.Mathlib.Omega.{arith}
 use lib.ListN.{length, take, drop, getD, take-append-drop}
 use lib.Seq.{slice, slice-empty, slice-cons, length-slice, length-take-le, take-take, drop-append-le}
-use Rattle.base.specs.Lists.{all, any, any-append, ahead, ahead-append}
+use Rattle.base.specs.paper.Lists.{all, any}
+use Rattle.base.specs.Lists.{any-append, ahead, ahead-append}
 
 -- of the part from i to n: the first entry, and the others
 pub next : (l : List ℕ) (i n : ℕ) → i < n → n ≤ length l → slice i n l ≡ getD l i 0 ∷ slice (i + 1) n l

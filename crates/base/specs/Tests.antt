@@ -4,7 +4,8 @@ use mathlib.Core.Path.{_≡_, refl, ap₂}
 use mathlib.Core.Bool.{Bool, true, false, _&&_, _||_}
 use mathlib.Core.List.{List, [], _∷_}
 use Rattle.base.specs.Bools.{clash}
-use Rattle.base.specs.Lists.{here, there, Every, Some, every-none, every-more, every-first, every-rest, all, any, all-every, any-some}
+use Rattle.base.specs.paper.Lists.{Every, all, any}
+use Rattle.base.specs.Lists.{Some, here, there, every-none, every-more, every-first, every-rest, all-every, any-some}
 
 module _ {ℓ} {A : Type ℓ} where
   pub all-same : (s t : A → Bool) (l : List A) → Every (λ (a : A). s a ≡ t a) l → all s l ≡ all t l

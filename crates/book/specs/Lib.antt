@@ -1,26 +1,3 @@
--- The rule book, in document 01's order: what a book is, its image's walk and faults, and the decoder.
-pub mod Book
-pub mod Sound
-pub mod Walk
-pub mod WalkLaws
-pub mod Faults
-pub mod FaultLaws
-pub mod Loops
-pub mod LoopLaws
-pub mod Decode
-pub mod Spell
-pub mod StandsLaws
-pub mod Reads
-pub mod Written
-pub mod Encode
-pub mod Shown
-pub mod Accepted
-pub mod Mentions
-pub mod Laid
-pub mod Queue
-pub mod Settling
-pub mod Taking
-pub mod Reading
-pub mod Pouring
-pub mod Seen
-pub mod SeenBook
+-- The reader's promise, and the ways to its answer.
+pub mod paper
+pub mod ReadingLaws

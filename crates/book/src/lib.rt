@@ -1,14 +1,8 @@
 // The rule book's reader: document 01, "The book's image" and "Refusal numbers" 1 to 9. It keeps nothing: the floors above
-// work on the image as lent, and specs/ say where in it each part of an accepted book stands.
+// work on the image as lent, and crate image says where in it each part of an accepted book stands.
 
-pub mod faults;
-pub mod fields;
-pub mod loops;
-pub mod records;
-pub mod walk;
-
-use fields::Taken;
-ghost use Rattle.book.specs.Reading.{Reads};
+use faults::fields::Taken;
+ghost use Rattle.book.specs.paper.Reading.{Reads};
 
 pub enum Reading {
     Accepted,
@@ -19,11 +13,11 @@ pub enum Reading {
 pub fn read(image: &[u8]) -> Reading
     ensures { λ r. ⌜ Reads (now (image .entry)) r ⌝ }
 {
-    let front = walk::wrong_front(image);
+    let front = walk::whole::wrong_front(image);
     if front != 0 {
         return Reading::Refused(front);
     }
-    match walk::take_whole(image) {
+    match walk::whole::take_whole(image) {
         Taken::Fault(n, _) => Reading::Refused(n),
         Taken::Found(_, _) => {
             if loops::is_loop_free(image) {

@@ -1,4 +1,4 @@
-// The engine for callers in C and Rust: each call under a plain name, its answer as one number (specs/Codes). A `&[u8]` is passed
+// The engine for callers in C and Rust: each call under a plain name, its answer as one number (specs/paper/Codes). A `&[u8]` is passed
 // as a pointer and then a length.
 
 use book::Reading;
@@ -6,7 +6,29 @@ use engine::Joined;
 use engine::Judgement;
 use engine::Listing;
 use engine::Verdict;
-ghost use Rattle.embed.specs.Codes.{ReadingCode, JudgementCode, ListingCode, VerdictCode, JoinedCode};
+ghost use Rattle.embed.specs.paper.Codes.{ReadingCode, JudgementCode, ListingCode, VerdictCode, JoinedCode};
+
+// How many codes there are for the nodes, 2^32, and for a kind of answer, 2^56.
+const NODE_CODES: u64 = 1 << 32;
+
+const KIND_CODES: u64 = 1 << 56;
+
+// Where the codes of each kind begin, but of the first.
+const FALSE_GOAL: u64 = KIND_CODES;
+
+const BROKEN_CONSTRAINT: u64 = 2 * KIND_CODES;
+
+const JUDGE_REFUSED: u64 = 3 * KIND_CODES;
+
+const LIST_REFUSED: u64 = KIND_CODES;
+
+const NEEDED: u64 = KIND_CODES;
+
+const POSSIBLE: u64 = 2 * KIND_CODES;
+
+const RULED_OUT: u64 = 3 * KIND_CODES;
+
+const VERDICT_REFUSED: u64 = 4 * KIND_CODES;
 
 #[no_mangle]
 pub extern "C" fn wizogbare_read(image: &[u8]) -> u32
@@ -24,9 +46,9 @@ pub extern "C" fn wizogbare_judge(image: &[u8], set: u64) -> u64
 {
     match engine::judge(image, set) {
         Judgement::Explains => 0,
-        Judgement::FalseGoal(p) => 72057594037927936 + p as u64,
-        Judgement::BrokenConstraint(p) => 144115188075855872 + p as u64,
-        Judgement::Refused(n) => 216172782113783808 + n as u64,
+        Judgement::FalseGoal(p) => FALSE_GOAL + p as u64,
+        Judgement::BrokenConstraint(p) => BROKEN_CONSTRAINT + p as u64,
+        Judgement::Refused(n) => JUDGE_REFUSED + n as u64,
     }
 }
 
@@ -40,8 +62,8 @@ pub extern "C" fn wizogbare_list(
     ensures { λ r. ⌜ ListingCode (now (image .entry)) budget (now (sets .entry)) (now (work .entry)) r (now (sets .exit)) (now (work .exit)) ⌝ }
 {
     match engine::list(image, budget, sets, work) {
-        Listing::Listed(k, n) => 4294967296 * (k as u64) + n as u64,
-        Listing::Refused(m, n) => 72057594037927936 + 4294967296 * (m as u64) + n as u64,
+        Listing::Listed(k, n) => NODE_CODES * (k as u64) + n as u64,
+        Listing::Refused(m, n) => LIST_REFUSED + NODE_CODES * (m as u64) + n as u64,
     }
 }
 
@@ -57,10 +79,10 @@ pub extern "C" fn wizogbare_verdict(
 {
     match engine::verdict_on(image, hypothesis, budget, sets, work) {
         Verdict::Unexplained(n) => n as u64,
-        Verdict::Needed(n) => 72057594037927936 + n as u64,
-        Verdict::Possible(n) => 144115188075855872 + n as u64,
-        Verdict::RuledOut(n) => 216172782113783808 + n as u64,
-        Verdict::Refused(m, n) => 288230376151711744 + 4294967296 * (m as u64) + n as u64,
+        Verdict::Needed(n) => NEEDED + n as u64,
+        Verdict::Possible(n) => POSSIBLE + n as u64,
+        Verdict::RuledOut(n) => RULED_OUT + n as u64,
+        Verdict::Refused(m, n) => VERDICT_REFUSED + NODE_CODES * (m as u64) + n as u64,
     }
 }
 
@@ -70,6 +92,6 @@ pub extern "C" fn wizogbare_join(left: &[u64], right: &[u64], out: &mut [u64]) -
 {
     match engine::join(left, right, out) {
         Joined::Count(k) => k as u64,
-        Joined::Refused(n) => 4294967296 * (n as u64),
+        Joined::Refused(n) => NODE_CODES * (n as u64),
     }
 }

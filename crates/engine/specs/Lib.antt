@@ -1,6 +1,3 @@
--- The promises of the engine's calls, one file for each, named after the call.
-pub mod Judge
-pub mod List
-pub mod Verdict
+-- The verdict's promise, and the laws on it.
+pub mod paper
 pub mod VerdictLaws
-pub mod Join

@@ -3,23 +3,17 @@
 ghost use mathlib.Core.Path.{_≡_};
 ghost use Prim.Native.Nat.{_≤_, _<_};
 ghost use lib.ListN.{length, take};
-ghost use Rattle.base.specs.Lists.{all, any};
-ghost use Rattle.base.specs.Members.{has};
-ghost use Rattle.engine.specs.Verdict.{decided};
+ghost use Rattle.base.specs.paper.Lists.{all, any};
+ghost use Rattle.image.specs.paper.Faults.{limits};
+ghost use Rattle.base.specs.paper.Members.{has};
+ghost use Rattle.engine.specs.paper.Verdict.{decided};
 use super::Verdict;
-
-// Whether the hypothesis is in the set.
-fn is_in(set: u64, hypothesis: u32) -> bool
-    requires { ⌜ hypothesis < 64 ⌝ }
-    ensures { λ r. ⌜ r ≡ has set hypothesis ⌝ }
-{
-    (set >> hypothesis) % 2 == 1
-}
+use sets::members::is_in;
 
 // Whether it is in each of the first `count` sets.
 pub fn in_every(sets: &[u64], count: usize, hypothesis: u32) -> bool
     requires { ⌜ count ≤ length (now sets) ⌝ }
-    requires { ⌜ hypothesis < 64 ⌝ }
+    requires { ⌜ hypothesis < limits .abducibles ⌝ }
     ensures { λ r. ⌜ r ≡ all (λ s. has s hypothesis) (take count (now (sets .entry))) ⌝ }
 {
     let mut i = 0;
@@ -37,7 +31,7 @@ pub fn in_every(sets: &[u64], count: usize, hypothesis: u32) -> bool
 // Whether it is in one of them.
 pub fn in_some(sets: &[u64], count: usize, hypothesis: u32) -> bool
     requires { ⌜ count ≤ length (now sets) ⌝ }
-    requires { ⌜ hypothesis < 64 ⌝ }
+    requires { ⌜ hypothesis < limits .abducibles ⌝ }
     ensures { λ r. ⌜ r ≡ any (λ s. has s hypothesis) (take count (now (sets .entry))) ⌝ }
 {
     let mut i = 0;
@@ -55,7 +49,7 @@ pub fn in_some(sets: &[u64], count: usize, hypothesis: u32) -> bool
 // The verdict by the first `count` sets.
 pub fn decide(sets: &[u64], count: u32, hypothesis: u32, nodes: u32) -> Verdict
     requires { ⌜ count ≤ length (now sets) ⌝ }
-    requires { ⌜ hypothesis < 64 ⌝ }
+    requires { ⌜ hypothesis < limits .abducibles ⌝ }
     ensures { λ r. ⌜ r ≡ decided hypothesis (take count (now (sets .entry))) nodes ⌝ }
 {
     let n = count as usize;

@@ -1,15 +1,15 @@
 // The engine's face: document 01's calls on a rule book, each with its promise. No call has a `requires`: on all bytes and numbers
-// it ends with an answer or a numbered refusal. The promises stand in specs/, one file for each call. The reader is `book::read`.
+// it ends with an answer or a numbered refusal. The promises stand in specs/paper of the crates that keep them. The reader is `book::read`.
 
-use book::fields::field_at;
+use image::front;
+pub use joiner::Joined;
 pub use judging::Judgement;
 use lister::Asked;
 pub use lister::Listing;
-pub use sets::Joined;
-ghost use Rattle.engine.specs.Judge.{Judges};
-ghost use Rattle.engine.specs.List.{Lists};
-ghost use Rattle.engine.specs.Verdict.{Verdicts};
-ghost use Rattle.engine.specs.Join.{Joins};
+ghost use Rattle.judging.specs.paper.Judged.{Judges};
+ghost use Rattle.lister.specs.paper.Promise.{Lists};
+ghost use Rattle.engine.specs.paper.Verdict.{Verdicts};
+ghost use Rattle.joiner.specs.paper.Join.{Joins};
 
 mod deciding;
 
@@ -52,7 +52,7 @@ pub fn verdict_on(
     match lister::before_search(image, budget, sets.len(), work.len()) {
         Asked::Turned(number) => Verdict::Refused(number, 0),
         Asked::Search => {
-            if field_at(image, 7) <= hypothesis {
+            if front::abducibles(image) <= hypothesis {
                 return Verdict::Refused(23, 0);
             }
             match lister::list_book(image, budget, sets, work) {
@@ -67,5 +67,5 @@ pub fn verdict_on(
 pub fn join(left: &[u64], right: &[u64], out: &mut [u64]) -> Joined
     ensures { λ r. ⌜ Joins (now (left .entry)) (now (right .entry)) (now (out .entry)) r (now (out .exit)) ⌝ }
 {
-    sets::join(left, right, out)
+    joiner::join(left, right, out)
 }

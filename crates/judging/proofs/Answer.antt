@@ -10,23 +10,23 @@ use lib.Dec.{leb, ltb}
 use lib.ListN.{length}
 use lib.Pow.{pow-pos, pow-mono}
 use borrow.Author.Tests.{leb-true, le-leb, lt-leb, ltb-true, lt-ltb, le-ltb}
-use Rattle.base.specs.Bools.{choose, choose-true, choose-false, same-test}
-use Rattle.book.specs.Book.{Lit, Book}
-use Rattle.book.specs.Sound.{Known}
-use Rattle.book.specs.Walk.{fieldAt}
-use Rattle.book.specs.Decode.{Decoded, accepted, refused, decode}
-use Rattle.book.specs.Reading.{readingOf, Reads}
-use Rattle.book.specs.declared.Reading.{Reading}
-use Rattle.book.specs.declared.Reading.the-variants as reading
-use Rattle.book.specs.Accepted.{orderly}
-use Rattle.judging.specs.Meaning.{true-in, value}
-use Rattle.judging.specs.Failing.{firstFailing}
-use Rattle.judging.specs.Judged.{firstFalse, firstBroken, judgedBook, judgedOf, judged, Judges}
-use Rattle.judging.specs.Notes.{bookOf, bookIn, Accepts, litsOf}
+use Rattle.base.specs.paper.Bools.{choose}
+use Rattle.base.specs.Bools.{choose-true, choose-false, same-test}
+use Rattle.image.specs.paper.Book.{Lit, Book}
+use Rattle.image.specs.Sound.{Known}
+use Rattle.image.specs.paper.Walk.{fieldAt}
+use Rattle.image.specs.paper.Decode.{Decoded, refused, decode}
+use Rattle.image.specs.Accepted.{orderly, bookIn, IsBook, within}
+use Rattle.meaning.specs.paper.Meaning.{true-in, value}
+use Rattle.judging.specs.paper.Failing.{firstFailing}
+use Rattle.judging.specs.paper.Judged.{firstFalse, firstBroken, judgedBook, judgedOf, judged, Judges}
+use Rattle.judging.specs.Notes.{litsOf}
 use Rattle.judging.specs.declared.Judgement.{Judgement}
 use Rattle.judging.specs.declared.Judgement.the-variants.{Explains, FalseGoal, BrokenConstraint, Refused}
-use Rattle.judging.proofs.Image.{shows, lits-stand, part}
-use Rattle.judging.proofs.Rule.{Counted, counted-part}
+use Rattle.image.specs.Shown.{clauseCountAt, abduciblesAt, goalsAt, goalAt}
+use Rattle.image.specs.Places.{shows}
+use Rattle.judging.proofs.Image.{lits-stand, part}
+use Rattle.judging.proofs.Constraint.{Counted, counted-part}
 
 -- ---- the set
 
@@ -44,23 +44,28 @@ none-above d k h l = sym (lt-leb (2 ^ k) d (lt-of-lt-of-le h (pow-mono l)))
 
 -- ---- the goal
 
-pub goal-counted : (s : List ℕ) → Accepts s → Counted s 9 (bookIn s .goal)
+pub goal-counted : (s : List ℕ) → IsBook s → Counted s goalsAt (bookIn s .goal)
 goal-counted s e =
     let sh = shows s e in
-    let n : fieldAt s 9 ≡ length (bookIn s .goal) = sh .goals in
+    let n : fieldAt s goalsAt ≡ length (bookIn s .goal) = sh .goals in
     record {
       count = n;
       within = omega (arith, sh .front, sh .fits);
-      lits = lits-stand s (11 + 2 * fieldAt s 9) 11 (bookIn s .goal) (sh .goal) (omega arith);
+      lits = lits-stand s (goalAt + 2 * fieldAt s goalsAt) goalAt (bookIn s .goal) (sh .goal) (omega arith);
     }
 
-pub goal-known : (s : List ℕ) → Accepts s → (count : ℕ) → count ≡ fieldAt s 9 → Known (bookIn s) (litsOf (part s 9 (11 + 2 * count)))
-goal-known s e count n =
-    subst (λ (ls : List Lit). Known (bookIn s) ls) (sym (counted-part s 9 (bookIn s .goal) count (goal-counted s e) n)) (orderly s (bookIn s) e .goal-known)
+-- the part of the image from the goal count to the clause count
+goal-part : (s : List ℕ) → IsBook s → (behind : ℕ) → behind ≡ clauseCountAt s → litsOf (part s goalsAt behind) ≡ bookIn s .goal
+unfolding clauseCountAt
+goal-part s e behind q =
+    ap (λ (k : ℕ). litsOf (part s goalsAt k)) q ∙ counted-part s goalsAt (bookIn s .goal) (fieldAt s goalsAt) (goal-counted s e) refl
+
+pub goal-known : (s : List ℕ) → IsBook s → (behind : ℕ) → behind ≡ clauseCountAt s → Known (bookIn s) (litsOf (part s goalsAt behind))
+goal-known s e behind q = subst (λ (ls : List Lit). Known (bookIn s) ls) (sym (goal-part s e behind q)) (orderly s (bookIn s) e .goal-known)
 
 -- ---- an accepted image
 
-module _ (s : List ℕ) (accepts : Accepts s) (d abducibles : ℕ) (r : Bool) (e : abducibles ≡ fieldAt s 7) (f : r ≡ leb (2 ^ abducibles) d) where
+module _ (s : List ℕ) (accepts : IsBook s) (d abducibles : ℕ) (r : Bool) (e : abducibles ≡ fieldAt s abduciblesAt) (f : r ≡ leb (2 ^ abducibles) d) where
   abbrev b : Book
   b = bookIn s
 
@@ -77,12 +82,13 @@ module _ (s : List ℕ) (accepts : Accepts s) (d abducibles : ℕ) (r : Bool) (e
   unfolding judgedBook
   answers-above h = sym (choose-true (Refused 23) afterSet (named ∙ h))
 
-  module _ (h : r ≡ false) (count place : ℕ) (n : count ≡ fieldAt s 9) (g : place ≡ firstFailing (true-in (value b d)) (litsOf (part s 9 (11 + 2 * count)))) where
+  module _ (h : r ≡ false) (count behind place : ℕ) (n : count ≡ fieldAt s goalsAt) (q : behind ≡ clauseCountAt s)
+      (g : place ≡ firstFailing (true-in (value b d)) (litsOf (part s goalsAt behind))) where
     goals : count ≡ length (b .goal)
     goals = n ∙ shows s accepts .goals
 
     false-at : place ≡ firstFalse b d
-    false-at = g ∙ ap (firstFailing (true-in (value b d))) (counted-part s 9 (b .goal) count (goal-counted s accepts) n)
+    false-at = g ∙ ap (firstFailing (true-in (value b d))) (goal-part s accepts behind q)
 
     pub answers-goal : place < count → FalseGoal place ≡ judgedBook b d
     unfolding judgedBook
@@ -98,35 +104,22 @@ module _ (s : List ℕ) (accepts : Accepts s) (d abducibles : ℕ) (r : Bool) (e
         choose-false (Refused 23) afterSet (named ∙ h)
         ∙ choose-false (FalseGoal (firstFalse b d)) afterGoal (le-ltb (firstFalse b d) (length (b .goal)) (omega (arith, false-at, goals)))
 
-    module _ (k : count ≤ place) (rules broken : ℕ) (m : rules ≡ length (b .constraints)) (j : broken ≡ firstBroken b d) where
-      pub answers-constraint : broken < rules → BrokenConstraint broken ≡ judgedBook b d
+    module _ (k : count ≤ place) (many broken : ℕ) (m : many ≡ length (b .constraints)) (j : broken ≡ firstBroken b d) where
+      pub answers-constraint : broken < many → BrokenConstraint broken ≡ judgedBook b d
       answers-constraint l =
           ap BrokenConstraint j
           ∙ sym (goal-true k ∙ choose-true (BrokenConstraint (firstBroken b d)) Explains (lt-ltb (firstBroken b d) (length (b .constraints)) (omega arith)))
 
-      pub answers-explains : rules ≤ broken → Explains ≡ judgedBook b d
+      pub answers-explains : many ≤ broken → Explains ≡ judgedBook b d
       answers-explains l =
           sym (goal-true k ∙ choose-false (BrokenConstraint (firstBroken b d)) Explains (le-ltb (firstBroken b d) (length (b .constraints)) (omega arith)))
 
 -- ---- what the reader found
 
-module _ (s : List ℕ) (q : Reading) (reads : Reads s q) where
-  pub read-accepts : q ≡ reading.Accepted → Accepts s
-  unfolding bookIn
-  read-accepts e = go (decode s) (sym (reads .answer) ∙ e)
-    where
-      go : (x : Decoded) → readingOf x ≡ reading.Accepted → x ≡ accepted (bookOf x)
-      go (accepted b) h = refl
-      go (refused n) h = let no : _≡_ {A = ℕ} 0 1 = cc (h) in absurd (omega arith)
+pub refused-judged : (s : List ℕ) (d n : ℕ) → decode s ≡ refused n → Judges s d (Refused n)
+unfolding judged
+refused-judged s d n e = record { answer = sym (ap (λ (x : Decoded). judgedOf x d) e) }
 
-  pub read-refuses : (n d : ℕ) → q ≡ reading.Refused n → Judges s d (Refused n)
-  unfolding judged
-  read-refuses n d e = record { answer = go (decode s) (sym (reads .answer) ∙ e) }
-    where
-      go : (x : Decoded) → readingOf x ≡ reading.Refused n → Refused n ≡ judgedOf x d
-      go (accepted b) h = let no : _≡_ {A = ℕ} 0 1 = cc (h) in absurd (omega arith)
-      go (refused m) h = let same : m ≡ n = cc (h) in ap Refused (sym same)
-
-pub accepted-judged : (s : List ℕ) (d : ℕ) (r : Judgement) → Accepts s → r ≡ judgedBook (bookIn s) d → Judges s d r
+pub accepted-judged : (s : List ℕ) (d : ℕ) (r : Judgement) → IsBook s → r ≡ judgedBook (bookIn s) d → Judges s d r
 unfolding judged
 accepted-judged s d r e h = record { answer = h ∙ sym (ap (λ (x : Decoded). judgedOf x d) e) }

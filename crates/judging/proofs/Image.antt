@@ -5,25 +5,21 @@ use mathlib.Core.Path.{_≡_, refl, sym, ap, ap₂, _∙_}
 use mathlib.Core.Bool.{Bool, true, false, not}
 use mathlib.Core.List.{List, [], _∷_}
 use native.Mathlib.Omega.{arith}
-use native.Mathlib.Numerals.{add-one}
 use lib.ListN.{length, getD, take, drop, length-take, length-drop}
 use lib.Seq.{getD-take, getD-drop}
 use lib.Dec.{leb, eqb}
 use borrow.Author.Tests.{leb-true, leb-false}
-use Rattle.base.specs.Bools.{choose}
-use Rattle.book.specs.Book.{Lit}
-use Rattle.book.specs.Walk.{fieldAt}
-use Rattle.book.specs.Decode.{litOf}
-use Rattle.book.specs.Spell.{Stands, ofLits, ofRecord}
-use Rattle.book.specs.StandsLaws.{stands-at, stands-value, stands-within}
-use Rattle.book.specs.Accepted.{within}
-use Rattle.book.specs.Shown.{Shown, shown, litsAt, lits-at, skip, clauseCount, clausePlace, noClause}
-use Rattle.judging.specs.Meaning.{true-in}
-use Rattle.judging.specs.Notes.{bookIn, Accepts, metAt, litsTo, litsOf}
+use Rattle.base.specs.paper.Bools.{choose}
+use Rattle.image.specs.paper.Book.{Lit}
+use Rattle.image.specs.paper.Walk.{fieldAt}
+use Rattle.image.specs.paper.Faults.{limits}
+use Rattle.image.specs.paper.Decode.{litOf}
+use Rattle.image.specs.Spell.{Stands, ofLits}
+use Rattle.image.specs.Accepted.{within, bookIn, IsBook}
+use Rattle.image.specs.Shown.{litsAt, lits-at}
+use Rattle.meaning.specs.paper.Meaning.{true-in}
+use Rattle.judging.specs.Notes.{metAt, litsTo, litsOf}
 use Rattle.judging.specs.declared.values.Met.the-variants.{Literal, End}
-
-pub shows : (s : List ℕ) → Accepts s → Shown s (bookIn s)
-shows s e = shown s (bookIn s) e
 
 -- ---- literals up to an end
 
@@ -117,36 +113,8 @@ module _ (s : List ℕ) (from to : ℕ) (ordered : from ≤ to) (within : to ≤
 
 -- ---- limits
 
-pub few-atoms : (s : List ℕ) → Accepts s → bookIn s .atoms ≤ 256
+pub few-atoms : (s : List ℕ) → IsBook s → bookIn s .atoms ≤ limits .atoms
 few-atoms s e = within s (bookIn s) e .atoms
 
-pub few-abducibles : (s : List ℕ) → Accepts s → bookIn s .abducibles ≤ 64
+pub few-abducibles : (s : List ℕ) → IsBook s → bookIn s .abducibles ≤ limits .abducibles
 few-abducibles s e = within s (bookIn s) e .abducibles
-
--- ---- places
-
-pub clauses-fit : (s : List ℕ) → Accepts s → clauseCount s + 2 ≤ length s
-unfolding clauseCount
-clauses-fit s e = let sh = shows s e in omega (arith, sh .front, sh .fits, sh .goals)
-
--- a record lies within the image
-pub record-within : (s : List ℕ) (at : ℕ) (xs : List ℕ) → Stands s at (ofRecord xs) → at + 2 + fieldAt s at ≤ length s
-record-within s at xs h =
-    let size : fieldAt s at ≡ 2 * length xs = stands-value h in
-    let all : at + 2 * suc (length xs) ≤ length s = stands-within (2 * length xs) xs h in
-    omega arith
-
--- the record of the clause numbered i
-pub clause-within : (s : List ℕ) → Accepts s → (count place i : ℕ) → count ≡ fieldAt s (clauseCount s) → place ≡ clausePlace s i → i < count
-    → place + 2 + fieldAt s place ≤ length s
-clause-within s e count place i n here h =
-    let sh = shows s e in
-    let c = getD (bookIn s .clauses) i noClause in
-    let there : i < length (bookIn s .clauses) = omega (arith, sh .clauses, n) in
-    record-within s place (c .head ∷ ofLits (c .body)) (stands-at (sym here) (sh .clause i there))
-
--- the place behind a record that is skipped
-pub place-next : (s : List ℕ) (first place i size : ℕ) → place ≡ skip s first i → size ≡ fieldAt s place → place + 2 + size ≡ skip s first (i + 1)
-unfolding skip
-place-next s first place i size here e =
-    ap (λ (n : ℕ). place + 2 + n) e ∙ ap (λ (k : ℕ). k + 2 + fieldAt s k) here ∙ ap (skip s first) (sym (add-one i))

@@ -11,8 +11,8 @@ use lib.Seq.{getD-set-same, getD-set-other, set-out}
 use lib.Dec.{eqb, ltb}
 use borrow.Author.Tests.{eqb-true, eqb-false, ltb-true, ltb-false}
 use Rattle.base.specs.Bools.{decide}
-use Rattle.book.specs.Book.{Book}
-use Rattle.judging.specs.Meaning.{value}
+use Rattle.image.specs.paper.Book.{Book}
+use Rattle.meaning.specs.paper.Meaning.{value}
 use Rattle.judging.specs.Notes.{noteOf, Noted}
 
 pub noted-none : (b : Book) (d n : ℕ) → Noted b d (replicate n 0)

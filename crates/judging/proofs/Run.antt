@@ -7,11 +7,13 @@ use mathlib.Core.List.{List, _∷_}
 use native.Mathlib.Omega.{arith}
 use lib.ListN.{length}
 use Rattle.base.specs.Lists.{every-first, every-rest}
-use Rattle.book.specs.Book.{Lit}
-use Rattle.book.specs.Sound.{Known}
-use Rattle.judging.specs.Meaning.{true-in, value}
-use Rattle.judging.specs.Failing.{firstFailing, failing-none, failing-later, failing-now}
-use Rattle.judging.specs.Notes.{bookIn, litsTo, litsOf, Noted}
+use Rattle.image.specs.paper.Book.{Lit}
+use Rattle.image.specs.Sound.{Known}
+use Rattle.meaning.specs.paper.Meaning.{true-in, value}
+use Rattle.judging.specs.paper.Failing.{firstFailing}
+use Rattle.judging.specs.FailingLaws.{failing-none, failing-later, failing-now}
+use Rattle.judging.specs.Notes.{litsTo, litsOf, Noted}
+use Rattle.image.specs.Accepted.{bookIn}
 use Rattle.judging.proofs.Image.{lits-none, lits-more, Here}
 
 -- the first i literals of the part are true, and the rest stands from `at` on

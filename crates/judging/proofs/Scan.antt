@@ -12,23 +12,23 @@ use lib.Seq.{drop-cons, drop-length}
 use lib.Dec.{eqb}
 use borrow.Author.Tests.{lt-ltb, le-ltb, eq-eqb, ne-eqb}
 use Rattle.base.specs.Bools.{choose-true, choose-false}
-use Rattle.base.specs.Lists.{_∈_, here, there, Every, every-first, every-rest, any}
-use Rattle.base.specs.Parts.{filter, put}
-use Rattle.base.specs.Members.{has}
-use Rattle.book.specs.Book.{Lit, Clause}
-use Rattle.book.specs.Walk.{fieldAt}
-use Rattle.book.specs.Loops.{rank}
-use Rattle.book.specs.LoopLaws.{free-ranks}
-use Rattle.book.specs.Spell.{Stands, ofLits, ofClause}
-use Rattle.book.specs.StandsLaws.{stands-at, stands-value, stands-rest, stands-within}
-use Rattle.book.specs.Reads.{length-lits}
-use Rattle.book.specs.Written.{decode-written}
-use Rattle.book.specs.Accepted.{closed, orderly}
-use Rattle.book.specs.Shown.{clauseCount, clausePlace, skip, noClause}
-use Rattle.judging.specs.Meaning.{clausesFor, true-in, all-true, some-body, value}
-use Rattle.judging.specs.Model.{value-model}
-use Rattle.judging.specs.Notes.{bookIn, Accepts, litsTo, Noted}
-use Rattle.judging.proofs.Image.{shows, lits-none, lits-more, lits-stand, Here}
+use Rattle.base.specs.paper.Lists.{_∈_, Every, any, filter, put}
+use Rattle.base.specs.Lists.{here, there, every-first, every-rest}
+use Rattle.base.specs.paper.Members.{has}
+use Rattle.image.specs.paper.Book.{Lit, Clause}
+use Rattle.image.specs.paper.Walk.{fieldAt}
+use Rattle.image.specs.LoopLaws.{rank, free-ranks}
+use Rattle.image.specs.Spell.{Stands, ofLits, ofClause}
+use Rattle.image.specs.StandsLaws.{stands-at, stands-value, stands-rest, stands-within}
+use Rattle.image.specs.Finds.{length-lits}
+use Rattle.image.specs.Written.{decode-written}
+use Rattle.image.specs.Accepted.{closed, orderly, bookIn, IsBook}
+use Rattle.image.specs.Shown.{clauseCountAt, clausePlace, skip, noClause}
+use Rattle.meaning.specs.paper.Meaning.{clausesFor, true-in, all-true, some-body, value}
+use Rattle.meaning.specs.Model.{value-model}
+use Rattle.judging.specs.Notes.{litsTo, Noted}
+use Rattle.image.specs.Places.{shows}
+use Rattle.judging.proofs.Image.{lits-none, lits-more, lits-stand, Here}
 
 pub getD-in : {A : Type 0} (l : List A) (i : ℕ) (d : A) → i < length l → getD l i d ∈ l
 getD-in [] i d h = absurd (omega arith)
@@ -49,7 +49,7 @@ any-filter {A} g f (a ∷ l) = go (g a) (any-filter g f l)
     go true ih = ap (λ (r : Bool). f a || r) ih
     go false ih = ih
 
-module _ (s : List ℕ) (accepts : Accepts s) (d p : ℕ) where
+module _ (s : List ℕ) (accepts : IsBook s) (d p : ℕ) where
   pub value-set : p < bookIn s .abducibles → value (bookIn s) d p ≡ has d p
   value-set h =
       value-model (bookIn s) (orderly s (bookIn s) accepts) d p
@@ -71,7 +71,7 @@ pub record Under (s : List ℕ) (p : ℕ) (l : Lit) : Type 0 where
   pub known : l .atom < bookIn s .atoms
   pub lower : rankIn s (l .atom) < rankIn s p
 
-under : (s : List ℕ) → Accepts s → (c : Clause) → c ∈ bookIn s .clauses → Every (Under s (c .head)) (c .body)
+under : (s : List ℕ) → IsBook s → (c : Clause) → c ∈ bookIn s .clauses → Every (Under s (c .head)) (c .body)
 unfolding rankIn
 under s e c m l k =
     let w = decode-written s (bookIn s) e in
@@ -118,7 +118,7 @@ pub record Read (s : List ℕ) (d p i head end at : ℕ) (memo : List ℕ) : Typ
   pub left : value (bookIn s) d p
       ≡ (all-true (value (bookIn s) d) (litsTo s end (head + at)) || any (supports (value (bookIn s) d) p) (drop (suc i) (bookIn s .clauses)))
 
-module _ (s : List ℕ) (accepts : Accepts s) (d p : ℕ) where
+module _ (s : List ℕ) (accepts : IsBook s) (d p : ℕ) where
   abbrev v : ℕ → Bool
   v = value (bookIn s) d
 
@@ -126,7 +126,7 @@ module _ (s : List ℕ) (accepts : Accepts s) (d p : ℕ) where
   cs = bookIn s .clauses
 
   pub scan-start : (count counted : ℕ) (memo : List ℕ) → Noted (bookIn s) d memo → bookIn s .abducibles ≤ p
-      → count ≡ fieldAt s counted → counted ≡ clauseCount s → Scan s d p count (counted + 2) 0 memo
+      → count ≡ fieldAt s counted → counted ≡ clauseCountAt s → Scan s d p count (counted + 2) 0 memo
   unfolding skip
   scan-start count counted memo noted defined e f =
       let sh = shows s accepts in
@@ -196,7 +196,7 @@ module _ (s : List ℕ) (accepts : Accepts s) (d p : ℕ) where
 
 -- ---- the literal scan
 
-module _ (s : List ℕ) (accepts : Accepts s) (d p i head end at : ℕ) (memo : List ℕ) (read : Read s d p i head end at memo) where
+module _ (s : List ℕ) (accepts : IsBook s) (d p i head end at : ℕ) (memo : List ℕ) (read : Read s d p i head end at memo) where
   pub read-over : end < head + at + 2 → value (bookIn s) d p ≡ true
   read-over h =
       read .left

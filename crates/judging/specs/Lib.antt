@@ -1,8 +1,6 @@
-pub mod Meaning
-pub mod Model
-pub mod Completion
-pub mod Entailed
-pub mod Failing
-pub mod Judged
+-- The judge's promise, the laws on it, and what its inner functions say.
+pub mod paper
+pub mod FailingLaws
+pub mod JudgedLaws
 pub mod Notes
 pub mod Sounded

@@ -4,33 +4,22 @@ use Prim.Native.Nat.{ℕ, _+_, _-_, _*_, _/_, _%_}
 use mathlib.Core.Path.{_≡_}
 use mathlib.Core.Bool.{Bool, true, false}
 use mathlib.Core.Logic.{_⊎_}
-use mathlib.Core.List.{List, []}
+use mathlib.Core.List.{List}
 use lib.ListN.{length, getD}
 use lib.Dec.{leb, eqb}
-use Rattle.base.specs.Bools.{choose}
-use Rattle.base.specs.Lists.{Every, flat}
-use Rattle.book.specs.Book.{Lit, Book}
-use Rattle.book.specs.Sound.{Known}
-use Rattle.book.specs.Walk.{fieldAt}
-use Rattle.book.specs.Decode.{Decoded, accepted, refused, decode}
-use Rattle.book.specs.Spell.{Stands, ofAlternative}
-use Rattle.book.specs.Shown.{litsAt}
-use Rattle.judging.specs.Meaning.{value}
+use Rattle.base.specs.paper.Bools.{choose}
+use Rattle.base.specs.paper.Lists.{Every, flat}
+use Rattle.image.specs.paper.Book.{Lit, Book}
+use Rattle.image.specs.Sound.{Known}
+use Rattle.image.specs.paper.Walk.{fieldAt}
+use Rattle.image.specs.Spell.{Stands, ofAlternative}
+use Rattle.image.specs.Shown.{litsAt}
+use Rattle.meaning.specs.paper.Meaning.{value}
 use Rattle.judging.specs.declared.values.Met.{Met}
 use Rattle.judging.specs.declared.values.Met.the-variants.{Literal, End}
+use Rattle.image.specs.Accepted.{bookIn}
 
 -- ---- the image
-
-abbrev pub bookOf : Decoded → Book
-bookOf (accepted b) = b
-bookOf (refused n) = record { atoms = 0; abducibles = 0; goal = []; clauses = []; constraints = [] }
-
--- the book of an image that is accepted
-unfoldable pub bookIn : List ℕ → Book
-bookIn s = bookOf (decode s)
-
-abbrev pub Accepts : List ℕ → Type 0
-Accepts s = decode s ≡ accepted (bookIn s)
 
 -- what a walk meets at a place of the part of the image that it is lent
 unfoldable pub metAt : List ℕ → ℕ → Met

@@ -4,15 +4,15 @@
 use Prim.Native.Nat.{ℕ}
 use mathlib.Core.Path.{_≡_, refl}
 use mathlib.Core.List.{List, [], _∷_, map}
-use Rattle.base.specs.Lists.{flat}
-use Rattle.book.specs.Walk.{fieldAt, field, running}
-use Rattle.book.specs.Faults.{wrongAtoms, wrongAbducibles, wrongCount, wrongLit, wrongHead, wrongSize, wrongClause, wrongConditions, wrongAlternative}
-use Rattle.book.specs.Loops.{pending, below, quiet, loopFree}
-use Rattle.book.specs.Decode.{literal, clause, alternative, alternatives, inside, constraint, counted, rules, book, ends, whole, lengthField, wrongFront, inOrder, decode}
-use Rattle.book.specs.Spell.{two}
-use Rattle.judging.specs.Meaning.{clausesFor, valued}
-use Rattle.judging.specs.Failing.{firstFailing}
-use Rattle.judging.specs.Judged.{judgedBook, judged}
+use Rattle.base.specs.paper.Lists.{flat, below}
+use Rattle.image.specs.paper.Walk.{fieldAt, field, running}
+use Rattle.image.specs.paper.Faults.{wrongAtoms, wrongAbducibles, wrongCount, wrongLit, wrongHead, wrongSize, wrongClause, wrongConditions, wrongAlternative}
+use Rattle.image.specs.paper.Loops.{pending, quiet, loopFree}
+use Rattle.image.specs.paper.Decode.{literal, clause, alternative, alternatives, inside, constraint, counted, clausesAndConstraints, book, ends, whole, lengthField, wrongFront, inOrder, decode}
+use Rattle.image.specs.Spell.{two}
+use Rattle.meaning.specs.paper.Meaning.{clausesFor, valued}
+use Rattle.judging.specs.paper.Failing.{firstFailing}
+use Rattle.judging.specs.paper.Judged.{judgedBook, judged}
 use Rattle.judging.specs.declared.Judgement.the-variants.{Explains, FalseGoal, BrokenConstraint, Refused}
 
 -- version, length, then the fields: A, B; the goal; three clauses; one constraint
@@ -24,5 +24,5 @@ image =
 
 -- nothing; fish; bubbles; fish, rock and bubbles; a fourth abducible
 answers : map (judged image) (0 ∷ 1 ∷ 4 ∷ 7 ∷ 8 ∷ []) ≡ FalseGoal 0 ∷ Explains ∷ BrokenConstraint 0 ∷ BrokenConstraint 0 ∷ Refused 23 ∷ []
-unfolding image fieldAt field running wrongAtoms wrongAbducibles wrongCount wrongLit wrongHead wrongSize wrongClause wrongConditions wrongAlternative pending below quiet loopFree literal clause alternative alternatives inside constraint counted rules book ends whole lengthField wrongFront inOrder decode clausesFor valued firstFailing judgedBook judged
+unfolding image fieldAt field running wrongAtoms wrongAbducibles wrongCount wrongLit wrongHead wrongSize wrongClause wrongConditions wrongAlternative pending below quiet loopFree literal clause alternative alternatives inside constraint counted clausesAndConstraints book ends whole lengthField wrongFront inOrder decode clausesFor valued firstFailing judgedBook judged
 answers = refl

@@ -1,17 +1,18 @@
-// What a set of assumptions explains: document 01, "Meaning" and "Judge, verdict, joiner". The judge works on the image as
-// lent; the meaning stands in specs/.
+// The judge: document 01, "Judge, verdict, joiner". It works on the image as lent; the meaning is crate meaning's.
 
 pub mod constraints;
-pub mod places;
 pub mod values;
 
 use book::Reading;
-use book::fields;
+use image::fields;
+use image::front;
+use sets::members::SET_BITS;
+use values::NOTES;
 ghost use mathlib.Core.Path.{_≡_};
 ghost use Prim.Native.Nat.{_^_};
 ghost use lib.Dec.{leb};
-ghost use Rattle.judging.specs.Notes.{Accepts, bookIn};
-ghost use Rattle.judging.specs.Judged.{judgedBook, Judges};
+ghost use Rattle.image.specs.Accepted.{IsBook, bookIn};
+ghost use Rattle.judging.specs.paper.Judged.{judgedBook, Judges};
 
 // The judge's answer. Places are from 0.
 pub enum Judgement {
@@ -25,7 +26,7 @@ pub enum Judgement {
 fn names_above(set: u64, abducibles: u32) -> bool
     ensures { λ r. ⌜ r ≡ leb (2 ^ abducibles) set ⌝ }
 {
-    if 64 <= abducibles {
+    if SET_BITS <= abducibles {
         return false;
     }
     0 < set >> abducibles
@@ -33,20 +34,20 @@ fn names_above(set: u64, abducibles: u32) -> bool
 
 // The answer on an accepted image.
 fn judge_accepted(image: &[u8], set: u64) -> Judgement
-    requires { ⌜ Accepts (now image) ⌝ }
+    requires { ⌜ IsBook (now image) ⌝ }
     ensures { λ r. ⌜ r ≡ judgedBook (bookIn (now (image .entry))) set ⌝ }
 {
-    if names_above(set, fields::field_at(image, places::ABDUCIBLES)) {
+    if names_above(set, front::abducibles(image)) {
         return Judgement::Refused(23);
     }
-    let mut memo = [0u8; 256];
-    let goals = fields::field_at(image, places::GOALS) as usize;
-    let behind = 11 + 2 * goals;
-    let goal = values::first_false(image, set, &mut memo, &image[places::GOALS..behind]);
+    let mut memo = [0u8; NOTES];
+    let goals = front::goals(image);
+    let behind = front::clauses(image);
+    let goal = values::first_false(image, set, &mut memo, &image[front::GOALS..behind]);
     if goal < goals {
         return Judgement::FalseGoal(goal as u32);
     }
-    let counted = places::constraints(image);
+    let counted = front::constraints(image);
     let count = fields::field_at(image, counted) as usize;
     let constraint = constraints::first_broken(image, set, &mut memo, counted);
     if constraint < count {

@@ -1,31 +1,28 @@
 // The value of an atom under a set of abducibles, found from the clauses of an accepted image as it is lent. The memo notes
 // each value once it is found, so that each atom is valued once.
 
-use super::places;
-use book::fields;
+use image::fields;
+use image::front;
+use image::limits::MOST_ATOMS;
+use sets::members::is_in;
 ghost use mathlib.Core.Path.{_≡_};
 ghost use mathlib.Core.Bool.{not};
 ghost use Prim.Native.Nat.{_<_};
-ghost use Rattle.base.specs.Bools.{choose};
-ghost use Rattle.base.specs.Members.{has};
-ghost use Rattle.book.specs.Sound.{Known};
-ghost use Rattle.judging.specs.Meaning as meaning;
-ghost use Rattle.judging.specs.Failing.{firstFailing};
-ghost use Rattle.judging.specs.Notes.{Accepts, bookIn, noteOf, Noted, metAt, litsOf};
+ghost use Rattle.base.specs.paper.Bools.{choose};
+ghost use Rattle.image.specs.Sound.{Known};
+ghost use Rattle.meaning.specs.paper.Meaning as meaning;
+ghost use Rattle.judging.specs.paper.Failing.{firstFailing};
+ghost use Rattle.judging.specs.Notes.{noteOf, Noted, metAt, litsOf};
+ghost use Rattle.image.specs.Accepted.{IsBook, bookIn};
+
+// The memo has a note for each atom there can be.
+pub const NOTES: usize = MOST_ATOMS as usize;
 
 // An atom's value as the memo notes it. 0 is no note.
 fn note(t: bool) -> u8
     ensures { λ r. ⌜ r ≡ noteOf t ⌝ }
 {
     if t { 2 } else { 1 }
-}
-
-// Whether abducible j is in the set.
-fn is_in(set: u64, j: u32) -> bool
-    requires { ⌜ j < 64 ⌝ }
-    ensures { λ r. ⌜ r ≡ has set j ⌝ }
-{
-    (set >> j) % 2 == 1
 }
 
 // Whether a literal of this sign is true where its atom has this value.
@@ -55,24 +52,24 @@ fn walk(part: &[u8], at: usize) -> Met
 
 // An atom's value: noted already; or, of an abducible, whether it is in the set; or whether some clause for it has every body
 // literal true, each of whose atoms is valued the same way.
-fn value(image: &[u8], set: u64, memo: &mut [u8; 256], atom: u32) -> bool
-    requires { ⌜ Accepts (now image) ⌝ }
+fn value(image: &[u8], set: u64, memo: &mut [u8; NOTES], atom: u32) -> bool
+    requires { ⌜ IsBook (now image) ⌝ }
     requires { ⌜ Noted (bookIn (now image)) set (now memo) ⌝ }
     requires { ⌜ atom < bookIn (now image) .atoms ⌝ }
-    ensures { λ r. ⌜ r ≡ meaning.value (bookIn (now (image .entry))) set atom ⌝ }
-    ensures { λ _. ⌜ Noted (bookIn (now (image .entry))) set (now (memo .exit)) ⌝ }
+    ensures value { λ r. ⌜ r ≡ meaning.value (bookIn (now (image .entry))) set atom ⌝ }
+    ensures memo { λ _. ⌜ Noted (bookIn (now (image .entry))) set (now (memo .exit)) ⌝ }
 {
     let slot = atom as usize;
     let noted = memo[slot];
     if noted != 0 {
         return noted == 2;
     }
-    if atom < fields::field_at(image, places::ABDUCIBLES) {
+    if atom < front::abducibles(image) {
         let member = is_in(set, atom);
         memo[slot] = note(member);
         return member;
     }
-    let counted = places::clauses(image);
+    let counted = front::clauses(image);
     let count = fields::field_at(image, counted);
     let mut place = counted + 2;
     let mut i: u32 = 0;
@@ -105,12 +102,12 @@ fn value(image: &[u8], set: u64, memo: &mut [u8; 256], atom: u32) -> bool
 }
 
 // The place of the first false literal behind the first field of a part of the image; where all are true, their number.
-pub fn first_false(image: &[u8], set: u64, memo: &mut [u8; 256], part: &[u8]) -> usize
-    requires { ⌜ Accepts (now image) ⌝ }
+pub fn first_false(image: &[u8], set: u64, memo: &mut [u8; NOTES], part: &[u8]) -> usize
+    requires { ⌜ IsBook (now image) ⌝ }
     requires { ⌜ Noted (bookIn (now image)) set (now memo) ⌝ }
     requires { ⌜ Known (bookIn (now image)) (litsOf (now part)) ⌝ }
-    ensures { λ r. ⌜ r ≡ firstFailing (meaning.true-in (meaning.value (bookIn (now (image .entry))) set)) (litsOf (now (part .entry))) ⌝ }
-    ensures { λ _. ⌜ Noted (bookIn (now (image .entry))) set (now (memo .exit)) ⌝ }
+    ensures place { λ r. ⌜ r ≡ firstFailing (meaning.true-in (meaning.value (bookIn (now (image .entry))) set)) (litsOf (now (part .entry))) ⌝ }
+    ensures memo { λ _. ⌜ Noted (bookIn (now (image .entry))) set (now (memo .exit)) ⌝ }
 {
     let mut at: usize = 2;
     let mut i: usize = 0;

@@ -1,4 +1,4 @@
--- The lister's promise and its laws.
-pub mod Promise
+-- The lister's promise, and the ways to it.
+pub mod paper
 pub mod PromiseLaws
 pub mod Whole

@@ -1,4 +1,4 @@
--- The ways to a listing: what the tests before any search say, and what a search leaves.
+-- The ways to a listing: what the tests before any search say, and what a search leaves; and that the promise fixes the result.
 -- Assumes nothing.
 use Prim.Native.Nat.{ℕ, _-_, _≤_, _<_}
 use native.Mathlib.Omega.{arith}
@@ -8,19 +8,21 @@ use borrow.Author.Tests.{lt-ltb, le-ltb}
 use lib.ListN.{length, take, drop}
 use lib.Seq.{take-at, length-take-le}
 use Rattle.base.specs.Bools.{choose-true, choose-false}
-use Rattle.book.specs.Book.{Book}
-use Rattle.book.specs.Decode.{Decoded, accepted, refused, decode}
-use Rattle.book.specs.Accepted.{orderly}
-use Rattle.sets.specs.Kept.{zeros, sort, sort-length}
-use Rattle.searching.specs.Rules.{root, Outcome, finished, used-up, no-room, run-from, sent, listing}
-use Rattle.searching.specs.Main.{Explanations, listed}
-use Rattle.tables.specs.Clauses.{IsBook}
-use Rattle.machine.specs.declared.run.Run.{Run}
+use Rattle.image.specs.paper.Book.{Book}
+use Rattle.image.specs.paper.Decode.{Decoded, accepted, refused, decode}
+use Rattle.image.specs.Accepted.{orderly, IsBook, bookIn, book-in}
+use Rattle.sets.specs.paper.Kept.{zeros, sort, longest}
+use Rattle.sets.specs.KeptLaws.{sort-length}
+use Rattle.searching.specs.paper.Rules.{root, Outcome, finished, used-up, no-room, run-from, sent, searchEnd}
+use Rattle.searching.specs.paper.Explanations.{Explanations}
+use Rattle.searching.specs.Main.{listed}
+use Rattle.area.specs.Area as layout
+use Rattle.memory.specs.declared.run.Run.{Run}
 use Rattle.lister.specs.declared.Asked.{Asked}
 use Rattle.lister.specs.declared.Asked.the-variants.{Turned, Search}
 use Rattle.lister.specs.declared.Listing.{Listing}
 use Rattle.lister.specs.declared.Listing.the-variants.{Listed, Refused}
-use Rattle.lister.specs.Promise.{Result, turned, searched, byBook, resultOf, answerOf, setsOf, workOf, Explained, Lists}
+use Rattle.lister.specs.paper.Promise.{mostBudget, Result, turned, searched, byBook, resultOf, answerOf, setsOf, workOf, Explained, Lists}
 
 -- ---- a search's results
 
@@ -28,18 +30,18 @@ use Rattle.lister.specs.Promise.{Result, turned, searched, byBook, resul
 pub record Searched (image : List ℕ) (budget : ℕ) (list area : List ℕ) (r : Listing) (list′ area′ : List ℕ) : Type 0 where
   pub b : Book
   pub book : decode image ≡ accepted b
-  pub answer : r ≡ answerOf (searched (listing b (length list) budget))
-  pub sets : list′ ≡ setsOf (searched (listing b (length list) budget)) list
-  pub work : area′ ≡ workOf (searched (listing b (length list) budget)) area
+  pub answer : r ≡ answerOf (searched (searchEnd b (length list) budget))
+  pub sets : list′ ≡ setsOf (searched (searchEnd b (length list) budget)) list
+  pub work : area′ ≡ workOf (searched (searchEnd b (length list) budget)) area
 
 never : {A : Type 0} {m n k l : ℕ} → Refused m n ≡ Listed k l → A
 never e = let z : _≡_ {A = ℕ} 0 1 = cc in absurd (omega arith)
 
 explained : (image : List ℕ) (budget : ℕ) (sets work : List ℕ) (r : Listing) (sets′ work′ : List ℕ) → Searched image budget sets work r sets′ work′
     → (k n : ℕ) → r ≡ Listed k n → Explained image k n sets′
-explained image budget sets work r sets′ work′ h k n i = go (listing (h .b) (length sets) budget) refl (sym (h .answer) ∙ i) (h .sets)
+explained image budget sets work r sets′ work′ h k n i = go (searchEnd (h .b) (length sets) budget) refl (sym (h .answer) ∙ i) (h .sets)
   where
-    go : (o : Outcome) → listing (h .b) (length sets) budget ≡ o → answerOf (searched o) ≡ Listed k n → sets′ ≡ setsOf (searched o) sets → Explained image k n sets′
+    go : (o : Outcome) → searchEnd (h .b) (length sets) budget ≡ o → answerOf (searched o) ≡ Listed k n → sets′ ≡ setsOf (searched o) sets → Explained image k n sets′
     go (used-up m) e a t = never a
     go (no-room m) e a t = never a
     go (finished l m) e a t =
@@ -56,14 +58,14 @@ explained image budget sets work r sets′ work′ h k n i = go (listing (h .b) 
 
 -- the results of the search's three endings, from what the code leaves
 module _ (image : List ℕ) (budget : ℕ) (old work : List ℕ) (kept : List ℕ) (r : Run) (b : Book) (e : decode image ≡ accepted b) (same : length kept ≡ length old) where
-  outcome-at : (o : Outcome) → run-from b (length kept) budget (root b) ≡ o → listing b (length old) budget ≡ sent o
+  outcome-at : (o : Outcome) → run-from b (length kept) budget (root b) ≡ o → searchEnd b (length old) budget ≡ sent o
   outcome-at o p = ap sent (ap (λ (m : ℕ). run-from b m budget (root b)) (sym same) ∙ p)
 
   pub searched-all : (sets′ work′ : List ℕ) → r .count ≤ length kept → run-from b (length kept) budget (root b) ≡ finished (take (r .count) kept) (r .nodes)
-      → sets′ ≡ sort (take (r .count) kept) ++ zeros (length kept - r .count) → work′ ≡ zeros 16384 ++ drop 16384 work
+      → sets′ ≡ sort (take (r .count) kept) ++ zeros (length kept - r .count) → work′ ≡ zeros layout.end ++ drop layout.end work
       → Searched image budget old work (Listed (r .count) (r .nodes)) sets′ work′
   searched-all sets′ work′ c p t u =
-      let o : listing b (length old) budget ≡ finished (sort (take (r .count) kept)) (r .nodes) = outcome-at (finished (take (r .count) kept) (r .nodes)) p in
+      let o : searchEnd b (length old) budget ≡ finished (sort (take (r .count) kept)) (r .nodes) = outcome-at (finished (take (r .count) kept) (r .nodes)) p in
       let many : length (sort (take (r .count) kept)) ≡ r .count = sort-length (take (r .count) kept) ∙ length-take-le (r .count) kept c in
       record {
         b = b;
@@ -77,10 +79,10 @@ module _ (image : List ℕ) (budget : ℕ) (old work : List ℕ) (kept : List �
 
   -- a search that ends without a list
   none-listed : (o : Outcome) {a : Listing} {sets′ work′ : List ℕ} → run-from b (length kept) budget (root b) ≡ o → a ≡ answerOf (searched (sent o))
-      → zeros (length old) ≡ setsOf (searched (sent o)) old → sets′ ≡ zeros (length kept) → work′ ≡ zeros 16384 ++ drop 16384 work
+      → zeros (length old) ≡ setsOf (searched (sent o)) old → sets′ ≡ zeros (length kept) → work′ ≡ zeros layout.end ++ drop layout.end work
       → Searched image budget old work a sets′ work′
   none-listed o p a z t u =
-      let q : listing b (length old) budget ≡ sent o = outcome-at o p in
+      let q : searchEnd b (length old) budget ≡ sent o = outcome-at o p in
       record {
         b = b;
         book = e;
@@ -90,11 +92,11 @@ module _ (image : List ℕ) (budget : ℕ) (old work : List ℕ) (kept : List �
       }
 
   pub searched-short : (sets′ work′ : List ℕ) → run-from b (length kept) budget (root b) ≡ used-up (r .nodes) → sets′ ≡ zeros (length kept)
-      → work′ ≡ zeros 16384 ++ drop 16384 work → Searched image budget old work (Refused 30 (r .nodes)) sets′ work′
+      → work′ ≡ zeros layout.end ++ drop layout.end work → Searched image budget old work (Refused 30 (r .nodes)) sets′ work′
   searched-short sets′ work′ p t u = none-listed (used-up (r .nodes)) p refl refl t u
 
   pub searched-full : (sets′ work′ : List ℕ) → run-from b (length kept) budget (root b) ≡ no-room (r .nodes) → sets′ ≡ zeros (length kept)
-      → work′ ≡ zeros 16384 ++ drop 16384 work → Searched image budget old work (Refused 31 (r .nodes)) sets′ work′
+      → work′ ≡ zeros layout.end ++ drop layout.end work → Searched image budget old work (Refused 31 (r .nodes)) sets′ work′
   searched-full sets′ work′ p t u = none-listed (no-room (r .nodes)) p refl refl t u
 
 -- ---- the ways to a result
@@ -102,9 +104,9 @@ module _ (image : List ℕ) (budget : ℕ) (old work : List ℕ) (kept : List �
 -- the search of this image may begin
 pub record Admitted (image : List ℕ) (budget room space : ℕ) : Type 0 where
   pub book : IsBook image
-  pub few : room ≤ 1024
-  pub long : 16384 ≤ space
-  pub low : budget ≤ 1000000
+  pub few : room ≤ longest
+  pub long : layout.end ≤ space
+  pub low : budget ≤ mostBudget
 
 -- what the tests before any search say: a refusal's number, or that it may begin
 abbrev pub Early : List ℕ → ℕ → ℕ → ℕ → Asked → Type 0
@@ -117,28 +119,28 @@ module _ (image : List ℕ) (budget room space : ℕ) where
   early-refused n e = ap (λ (d : Decoded). byBook d room space budget) e
 
   module _ (i : IsBook image) where
-    on-book : resultOf image budget room space ≡ byBook (accepted (i .b)) room space budget
+    on-book : resultOf image budget room space ≡ byBook (accepted (bookIn image)) room space budget
     unfolding resultOf
-    on-book = ap (λ (d : Decoded). byBook d room space budget) (i .book)
+    on-book = ap (λ (d : Decoded). byBook d room space budget) i
 
-    pub early-long : 1024 < room → Early image budget room space (Turned 20)
-    early-long p = on-book ∙ choose-true _ _ (lt-ltb 1024 room p)
+    pub early-long : longest < room → Early image budget room space (Turned 20)
+    early-long p = on-book ∙ choose-true _ _ (lt-ltb longest room p)
 
-    pub early-short : room ≤ 1024 → space < 16384 → Early image budget room space (Turned 21)
-    early-short p q = on-book ∙ choose-false _ _ (le-ltb 1024 room p) ∙ choose-true _ _ (lt-ltb space 16384 q)
+    pub early-short : room ≤ longest → space < layout.end → Early image budget room space (Turned 21)
+    early-short p q = on-book ∙ choose-false _ _ (le-ltb longest room p) ∙ choose-true _ _ (lt-ltb space layout.end q)
 
-    pub early-budget : room ≤ 1024 → 16384 ≤ space → 1000000 < budget → Early image budget room space (Turned 22)
+    pub early-budget : room ≤ longest → layout.end ≤ space → mostBudget < budget → Early image budget room space (Turned 22)
     early-budget p q r =
-        on-book ∙ choose-false _ _ (le-ltb 1024 room p) ∙ choose-false _ _ (le-ltb space 16384 q) ∙ choose-true _ _ (lt-ltb 1000000 budget r)
+        on-book ∙ choose-false _ _ (le-ltb longest room p) ∙ choose-false _ _ (le-ltb space layout.end q) ∙ choose-true _ _ (lt-ltb mostBudget budget r)
 
   -- the search may begin
   pub may-search : (r : Asked) → Early image budget room space r → r ≡ Search → Admitted image budget room space
   may-search r early i = subst (Early image budget room space) i early
 
-  pub admitted-result : (a : Admitted image budget room space) → resultOf image budget room space ≡ searched (listing (a .book .b) room budget)
+  pub admitted-result : (a : Admitted image budget room space) → resultOf image budget room space ≡ searched (searchEnd (bookIn image) room budget)
   admitted-result a =
-      on-book (a .book) ∙ choose-false _ _ (le-ltb 1024 room (a .few)) ∙ choose-false _ _ (le-ltb space 16384 (a .long))
-      ∙ choose-false _ _ (le-ltb 1000000 budget (a .low))
+      on-book (a .book) ∙ choose-false _ _ (le-ltb longest room (a .few)) ∙ choose-false _ _ (le-ltb space layout.end (a .long))
+      ∙ choose-false _ _ (le-ltb mostBudget budget (a .low))
 
 module _ (image : List ℕ) (budget : ℕ) (sets work : List ℕ) where
   -- turned away
@@ -155,12 +157,19 @@ module _ (image : List ℕ) (budget : ℕ) (sets work : List ℕ) where
   pub searched-lists : Admitted image budget (length sets) (length work) → (r : Listing) (sets′ work′ : List ℕ) → Searched image budget sets work r sets′ work′
       → Lists image budget sets work r sets′ work′
   searched-lists a r sets′ work′ h =
-      let same : h .b ≡ a .book .b = cc (h .book, a .book .book) in
-      let result : resultOf image budget (length sets) (length work) ≡ searched (listing (h .b) (length sets) budget) =
-      admitted-result image budget (length sets) (length work) a ∙ ap (λ (c : Book). searched (listing c (length sets) budget)) (sym same) in
+      let same : h .b ≡ bookIn image = sym (book-in image (h .b) (h .book)) in
+      let result : resultOf image budget (length sets) (length work) ≡ searched (searchEnd (h .b) (length sets) budget) =
+      admitted-result image budget (length sets) (length work) a ∙ ap (λ (c : Book). searched (searchEnd c (length sets) budget)) (sym same) in
       record {
         answer = h .answer ∙ ap answerOf (sym result);
         sets = h .sets ∙ ap (λ (x : Result). setsOf x sets) (sym result);
         work = h .work ∙ ap (λ (x : Result). workOf x work) (sym result);
         explanations = λ k n i. explained image budget sets work r sets′ work′ h k n i;
       }
+
+-- Two results that meet the promise are equal.
+pub lists-unique : (image : List ℕ) (budget : ℕ) (sets work : List ℕ) (r q : Listing) (sets₁ work₁ sets₂ work₂ : List ℕ)
+    → Lists image budget sets work r sets₁ work₁ → Lists image budget sets work q sets₂ work₂
+    → (r ≡ q) × (sets₁ ≡ sets₂) × (work₁ ≡ work₂)
+lists-unique image budget sets work r q sets₁ work₁ sets₂ work₂ a b =
+    (a .answer ∙ sym (b .answer), a .sets ∙ sym (b .sets), a .work ∙ sym (b .work))

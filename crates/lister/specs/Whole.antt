@@ -1,63 +1,25 @@
--- The whole listing, as the code puts it together.
+-- The three ends of a search, as the code puts the whole listing together.
 -- Assumes nothing.
 use Prim.Native.Nat.{ℕ, zero, suc, _+_, _-_, _≤_}
 use native.Mathlib.Omega.{arith}
 use native.Mathlib.Nat.{sub-zero}
-use mathlib.Core.Path.{_≡_, refl, sym, ap, ap₂, subst, _∙_}
+use mathlib.Core.Path.{_≡_, ap, ap₂, subst, _∙_}
 use mathlib.Core.Bool.{Bool, true, false}
 use mathlib.Core.List.{List, [], _∷_, _++_}
 use lib.ListN.{length, take, drop, length-append, length-drop}
 use lib.Seq.{take-at, length-take-le}
 use lib.Dec.{ltb}
-use Rattle.base.specs.Bools.{choose}
-use Rattle.book.specs.Book.{Book}
-use Rattle.book.specs.Decode.{Decoded, accepted, refused, decode}
-use Rattle.book.specs.Reading.{readingOf, Reads}
-use Rattle.book.specs.declared.Reading.{Reading}
-use Rattle.book.specs.declared.Reading.the-variants.{Accepted, Refused as Turned}
-use Rattle.sets.specs.Kept.{zeros, sort, sort-length}
-use Rattle.searching.specs.Rules.{Node, root, children, noting, Outcome, finished, used-up, no-room, run, run-from}
-use Rattle.tables.specs.Clauses.{IsBook}
-use Rattle.machine.specs.declared.run.Run.{Run}
-use Rattle.machine.specs.Steps.{Searching, Ending, all-visited, out-of-budget, out-of-room, Stopped}
-use Rattle.machine.specs.Start.{Started}
+use Rattle.base.specs.paper.Bools.{choose}
+use Rattle.image.specs.paper.Book.{Book}
+use Rattle.sets.specs.paper.Kept.{zeros, sort}
+use Rattle.sets.specs.KeptLaws.{sort-length}
+use Rattle.searching.specs.paper.Rules.{Node, root, children, noting, Outcome, finished, used-up, no-room, run, run-from}
+use Rattle.area.specs.Area as layout
+use Rattle.memory.specs.declared.run.Run.{Run}
+use Rattle.memory.specs.States.{OVER, SPENT}
+use Rattle.machine.specs.Contracts.{Ending, all-visited, out-of-budget, out-of-room, Stopped}
 use Rattle.lister.specs.declared.Listing.the-variants.{Listed, Refused}
 use Rattle.lister.specs.PromiseLaws.{Searched, searched-all, searched-short, searched-full}
-
--- ---- what the reader's answer says
-
-pub read-book : (s : List ℕ) (r : Reading) → Reads s r → r ≡ Accepted → IsBook s
-read-book s r h e = go (decode s) refl (sym (h .answer) ∙ e)
-  where
-    go : (d : Decoded) → decode s ≡ d → readingOf d ≡ Accepted → IsBook s
-    go (accepted b) i j = record { b = b; book = i }
-    go (refused n) i j = let z : _≡_ {A = ℕ} 0 1 = cc in absurd (omega arith)
-
-pub read-refused : (s : List ℕ) (r : Reading) (n : ℕ) → Reads s r → r ≡ Turned n → decode s ≡ refused n
-read-refused s r n h e = go (decode s) refl (sym (h .answer) ∙ e)
-  where
-    go : (d : Decoded) → decode s ≡ d → readingOf d ≡ Turned n → decode s ≡ refused n
-    go (accepted b) i j = let z : _≡_ {A = ℕ} 0 1 = cc in absurd (omega arith)
-    go (refused m) i j = let same : m ≡ n = cc in i ∙ ap refused same
-
--- ---- the search begins at the root
-
-pub begins : (s : List ℕ) (budget : ℕ) (sets w v : List ℕ) (r : Run) → IsBook s → Started s w v r → length sets ≤ 1024 → Searching s budget sets v r
-begins s budget sets w v r i h n = record {
-  b = i .b;
-  all = root (i .b) ∷ [];
-  holds = h .holds (i .b) (i .book);
-  nodes = omega (arith, h .nodes);
-  count = omega (arith, h .count);
-  entries = n;
-  answer = start (r .nodes) (r .count) (h .nodes) (h .count);
-}
-  where
-    start : (n c : ℕ) → n ≡ 0 → c ≡ 0
-        → run-from (i .b) (length sets) budget (root (i .b)) ≡ run (i .b) (length sets) (budget - n) (root (i .b) ∷ []) (take c sets) n
-    start n c p q = rw (p, q, sub-zero)
-
--- ---- its three ends
 
 -- no search visits more nodes than its budget
 abbrev nodesOf : Outcome → ℕ
@@ -91,12 +53,12 @@ few-nodes image budget kept r h = go (h .ending)
     go (out-of-budget i o) = at-most _ o
     go (out-of-room i o) = at-most _ o
 
-module _ (image : List ℕ) (budget : ℕ) (old work kept v : List ℕ) (r : Run) (h : Stopped image budget kept r) (same : length kept ≡ length old) (later : drop 16384 v ≡ drop 16384 work) where
+module _ (image : List ℕ) (budget : ℕ) (old work kept : List ℕ) (r : Run) (h : Stopped image budget kept r) (same : length kept ≡ length old) where
   record Visited-all : Type 0 where
     few : r .count ≤ length kept
     end : run-from (h .b) (length kept) budget (root (h .b)) ≡ finished (take (r .count) kept) (r .nodes)
 
-  visited-all : r .state ≡ 1 → Visited-all
+  visited-all : r .state ≡ OVER → Visited-all
   visited-all e = go (h .ending)
     where
       go : Ending (h .b) budget kept r → Visited-all
@@ -104,14 +66,11 @@ module _ (image : List ℕ) (budget : ℕ) (old work kept v : List ℕ) (r : Run
       go (out-of-budget i o) = absurd (omega (arith, i, e))
       go (out-of-room i o) = absurd (omega (arith, i, e))
 
-  pub count-fits : r .state ≡ 1 → r .count ≤ length kept
+  pub count-fits : r .state ≡ OVER → r .count ≤ length kept
   count-fits e = visited-all e .few
 
-  cleared : (work₂ : List ℕ) → work₂ ≡ zeros 16384 ++ drop 16384 v → work₂ ≡ zeros 16384 ++ drop 16384 work
-  cleared work₂ e = e ∙ ap (λ (l : List ℕ). zeros 16384 ++ l) later
-
-  pub ends-listed : (sets₁ sets₂ work₂ : List ℕ) → r .state ≡ 1 → sets₁ ≡ sort (take (r .count) kept) ++ drop (r .count) kept
-      → sets₂ ≡ take (r .count) sets₁ ++ zeros (length sets₁ - r .count) → work₂ ≡ zeros 16384 ++ drop 16384 v
+  pub ends-listed : (sets₁ sets₂ work₂ : List ℕ) → r .state ≡ OVER → sets₁ ≡ sort (take (r .count) kept) ++ drop (r .count) kept
+      → sets₂ ≡ take (r .count) sets₁ ++ zeros (length sets₁ - r .count) → work₂ ≡ zeros layout.end ++ drop layout.end work
       → Searched image budget old work (Listed (r .count) (r .nodes)) sets₂ work₂
   ends-listed sets₁ sets₂ work₂ e p q u =
       let a = visited-all e in
@@ -119,25 +78,25 @@ module _ (image : List ℕ) (budget : ℕ) (old work kept v : List ℕ) (r : Run
       let size : length sets₁ ≡ length kept = ap length p ∙ length-append (sort (take (r .count) kept)) (drop (r .count) kept) ∙ omega (arith, many, length-drop (r .count) kept, a .few) in
       let front : take (r .count) sets₁ ≡ sort (take (r .count) kept) = ap (take (r .count)) p ∙ take-at (sort (take (r .count) kept)) (drop (r .count) kept) (r .count) many in
       searched-all image budget old work kept r (h .b) (h .book) same sets₂ work₂ (a .few) (a .end)
-      (q ∙ ap₂ (λ (l : List ℕ) (n : ℕ). l ++ zeros (n - r .count)) front size) (cleared work₂ u)
+      (q ∙ ap₂ (λ (l : List ℕ) (n : ℕ). l ++ zeros (n - r .count)) front size) u
 
   zeroed : (sets₂ : List ℕ) → sets₂ ≡ take 0 kept ++ zeros (length kept - 0) → sets₂ ≡ zeros (length kept)
   zeroed sets₂ p = p ∙ ap zeros (sub-zero (length kept))
 
-  pub ends-short : (sets₂ work₂ : List ℕ) → r .state ≡ 30 → sets₂ ≡ take 0 kept ++ zeros (length kept - 0) → work₂ ≡ zeros 16384 ++ drop 16384 v
+  pub ends-short : (sets₂ work₂ : List ℕ) → r .state ≡ SPENT → sets₂ ≡ take 0 kept ++ zeros (length kept - 0) → work₂ ≡ zeros layout.end ++ drop layout.end work
       → Searched image budget old work (Refused 30 (r .nodes)) sets₂ work₂
   ends-short sets₂ work₂ e p u = go (h .ending)
     where
       go : Ending (h .b) budget kept r → Searched image budget old work (Refused 30 (r .nodes)) sets₂ work₂
       go (all-visited i c o) = absurd (omega (arith, i, e))
-      go (out-of-budget i o) = searched-short image budget old work kept r (h .b) (h .book) same sets₂ work₂ o (zeroed sets₂ p) (cleared work₂ u)
+      go (out-of-budget i o) = searched-short image budget old work kept r (h .b) (h .book) same sets₂ work₂ o (zeroed sets₂ p) u
       go (out-of-room i o) = absurd (omega (arith, i, e))
 
-  pub ends-full : (sets₂ work₂ : List ℕ) → (r .state ≡ 1 → ⊥) → (r .state ≡ 30 → ⊥) → sets₂ ≡ take 0 kept ++ zeros (length kept - 0) → work₂ ≡ zeros 16384 ++ drop 16384 v
+  pub ends-full : (sets₂ work₂ : List ℕ) → (r .state ≡ OVER → ⊥) → (r .state ≡ SPENT → ⊥) → sets₂ ≡ take 0 kept ++ zeros (length kept - 0) → work₂ ≡ zeros layout.end ++ drop layout.end work
       → Searched image budget old work (Refused 31 (r .nodes)) sets₂ work₂
   ends-full sets₂ work₂ d e p u = go (h .ending)
     where
       go : Ending (h .b) budget kept r → Searched image budget old work (Refused 31 (r .nodes)) sets₂ work₂
       go (all-visited i c o) = absurd (d i)
       go (out-of-budget i o) = absurd (e i)
-      go (out-of-room i o) = searched-full image budget old work kept r (h .b) (h .book) same sets₂ work₂ o (zeroed sets₂ p) (cleared work₂ u)
+      go (out-of-room i o) = searched-full image budget old work kept r (h .b) (h .book) same sets₂ work₂ o (zeroed sets₂ p) u

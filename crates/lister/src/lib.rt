@@ -1,7 +1,11 @@
 // The lister: the tests before any search, the search, and the list in order.
+use area::END;
 use book::Reading;
+use memory::run::OVER;
+use memory::run::SPENT;
+use sets::LONGEST;
 ghost use lib.ListN.{length};
-ghost use Rattle.lister.specs.Promise.{Lists};
+ghost use Rattle.lister.specs.paper.Promise.{Lists};
 ghost use Rattle.lister.specs.PromiseLaws.{Admitted, Early};
 
 // The number of sets, or a refusal's number; then the nodes visited.
@@ -9,10 +13,6 @@ pub enum Listing {
     Listed(u32, u32),
     Refused(u8, u32),
 }
-
-const LONGEST: usize = 1024;
-
-const SPACE: usize = 16384;
 
 const MOST_BUDGET: u32 = 1000000;
 
@@ -31,7 +31,7 @@ pub fn before_search(image: &[u8], budget: u32, room: usize, space: usize) -> As
             if LONGEST < room {
                 return Asked::Turned(20);
             }
-            if space < SPACE {
+            if space < END {
                 return Asked::Turned(21);
             }
             if MOST_BUDGET < budget {
@@ -57,19 +57,17 @@ pub fn list_book(image: &[u8], budget: u32, sets: &mut [u64], work: &mut [u32]) 
     requires { ⌜ Admitted (now image) budget (length (now sets)) (length (now work)) ⌝ }
     ensures { λ r. ⌜ Lists (now (image .entry)) budget (now (sets .entry)) (now (work .entry)) r (now (sets .exit)) (now (work .exit)) ⌝ }
 {
-    let root = machine::start::start(image, work);
-    let r = machine::search::walk_on(image, budget as usize, sets, work, root);
-    tables::area::wipe(work, SPACE);
+    let r = machine::search(image, budget as usize, sets, work);
     let state = r.state;
     let count = r.count;
     let nodes = r.nodes as u32;
-    if state == machine::run::OVER {
-        sets::order::order(sets, count);
+    if state == OVER {
+        order::order(sets, count);
         sets::lists::clear(sets, count);
         return Listing::Listed(count as u32, nodes);
     }
     sets::lists::clear(sets, 0);
-    if state == 30 {
+    if state == SPENT {
         return Listing::Refused(30, nodes);
     }
     Listing::Refused(31, nodes)

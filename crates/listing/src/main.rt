@@ -1,27 +1,37 @@
 // Document 01's printing program: lists the smallest explanations of the book whose image stands on standard input, of which it
 // takes at most the first 8,752 bytes, one more than the longest image has.
+use area::END;
 use engine::Listing;
+use image::limits::LONGEST_IMAGE;
+use image::limits::MOST_ABDUCIBLES;
+use sets::members::is_in;
 ghost use mathlib.Core.Path.{_≡_};
 ghost use lib.ListN.{length};
+ghost use Rattle.listing.specs.Buffers.{inputBytes, room};
+ghost use Rattle.area.specs.paper.Work.{workNumbers};
 
 const BUDGET: u32 = 100_000;
 
-fn image_buffer() -> [u8; 8752]
-    ensures { λ r. ⌜ 8752 ≡ length r ⌝ }
+const ROOM: usize = 256;
+
+const INPUT: usize = LONGEST_IMAGE + 1;
+
+fn image_buffer() -> [u8; INPUT]
+    ensures { λ r. ⌜ inputBytes ≡ length r ⌝ }
 {
-    [0; 8752]
+    [0; INPUT]
 }
 
-fn list_buffer() -> [u64; 256]
-    ensures { λ r. ⌜ 256 ≡ length r ⌝ }
+fn list_buffer() -> [u64; ROOM]
+    ensures { λ r. ⌜ room ≡ length r ⌝ }
 {
-    [0; 256]
+    [0; ROOM]
 }
 
-fn work_area() -> [u32; 16384]
-    ensures { λ r. ⌜ 16384 ≡ length r ⌝ }
+fn work_area() -> [u32; END]
+    ensures { λ r. ⌜ workNumbers ≡ length r ⌝ }
 {
-    [0; 16384]
+    [0; END]
 }
 
 // The first line: a word with its number, and the nodes.
@@ -41,8 +51,8 @@ fn member(abducible: u32) {
 // A space before each abducible of the set, ascending.
 fn members(set: u64) {
     let mut j: u32 = 0;
-    while j < 64 {
-        if (set >> j) % 2 == 1 {
+    while j < MOST_ABDUCIBLES {
+        if is_in(set, j) {
             member(j);
         }
         j += 1;

@@ -1,21 +1,4 @@
--- The machine of the search and what it holds.
-pub mod Machine
-pub mod Memory
-pub mod Sheet
-pub mod Tasks
-pub mod Bits
-pub mod Marks
-pub mod Pieces
+-- The walk of the search, from its start to its end.
+pub mod Contracts
 pub mod Steps
-pub mod Agendas
-pub mod Enter
-pub mod Front
-pub mod Ways
-pub mod Undo
-pub mod Back
-pub mod Visit
-pub mod Want
-pub mod Pick
-pub mod Node
-pub mod Search
 pub mod Start

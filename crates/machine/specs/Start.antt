@@ -1,57 +1,67 @@
 -- The start: the tables are filled, and the root's agenda is in hand.
 -- Assumes nothing.
-use Prim.Native.Nat.{ℕ, zero, suc, _+_, _*_}
+use Prim.Native.Nat.{ℕ, zero, suc, _+_, _-_, _*_, _≤_}
+use native.Mathlib.Nat.{sub-zero}
 use native.Mathlib.Omega.{arith}
 use mathlib.Core.Path.{_≡_, refl, sym, ap, subst, subst₂, _∙_}
 use mathlib.Core.Bool.{false}
 use mathlib.Core.List.{List, [], _∷_, _++_, map}
-use lib.ListN.{length, drop}
-use Rattle.book.specs.Book.{Lit, Book}
-use Rattle.book.specs.Walk.{fieldAt}
-use Rattle.book.specs.Decode.{decode, accepted}
-use Rattle.book.specs.Spell.{ofLit, ofLits, Stands}
-use Rattle.book.specs.StandsLaws.{stands-within}
-use Rattle.book.specs.Reads.{length-lits}
-use Rattle.book.specs.Written.{Within}
-use Rattle.book.specs.Faults.{limits}
-use Rattle.book.specs.Shown.{lits-at, Shown, shown}
-use Rattle.book.specs.Accepted.{within, orderly}
-use Rattle.searching.specs.Rules.{want, keep, root, on, gather, assumed}
+use lib.ListN.{length, take, drop}
+use Rattle.image.specs.paper.Book.{Lit, Book}
+use Rattle.image.specs.paper.Decode.{decode, accepted}
+use Rattle.image.specs.Spell.{ofLit, ofLits, Stands}
+use Rattle.image.specs.StandsLaws.{stands-within}
+use Rattle.image.specs.Finds.{length-lits}
+use Rattle.image.specs.Written.{Within}
+use Rattle.image.specs.paper.Faults.{limits}
+use Rattle.image.specs.Shown.{goalAt, lits-at, clauseCountAt, Shown, shown}
+use Rattle.image.specs.Accepted.{within, orderly, IsBook, bookIn, book-in}
+use Rattle.sets.specs.paper.Kept.{longest}
+use Rattle.searching.specs.paper.Rules.{want, keep, root, on, gather, assumed, run, run-from}
 use Rattle.searching.specs.Bounds.{root-frames, root-named}
-use Rattle.tables.specs.Lay.{of, behind-stays}
-use Rattle.tables.specs.Clauses.{bookOf, book-of}
+use Rattle.area.specs.Lay.{of, behind-stays}
 use Rattle.tables.specs.Filling.{Filled}
-use Rattle.machine.specs.declared.run.Run.{Run}
-use Rattle.machine.specs.Machine.{Trail, Own, Tail, Agenda, bottom, Fine, Hand, Holds}
+use Rattle.area.specs.Area as layout
+use Rattle.memory.specs.declared.run.Agenda.{Agenda}
+use Rattle.memory.specs.declared.run.Run.{Run}
+use Rattle.memory.specs.States.{AGENDA}
+use Rattle.memory.specs.Machine.{Trail, Own, Tail, Leads, bottom, Fine, Hand, Holds}
+use Rattle.machine.specs.Contracts.{Searching}
+
+-- the goal, which ends where the clause count stands, and then all constraints
+abbrev pub rootAgenda : ℕ → Agenda
+rootAgenda clauses = record { at = goalAt; end = clauses; link = layout.cellFrom 0 }
 
 abbrev pub rootRun : ℕ → Run
-rootRun goals =
-    record { state = 2; task = 0; at = 11; end = 11 + 2 * goals; link = 2050; marked = 7560; top = 8584; nodes = 0; count = 0; set = 0 }
+rootRun clauses =
+    record { state = AGENDA; task = 0; agenda = rootAgenda clauses; marked = layout.trail; top = layout.frames; nodes = 0; count = 0; set = 0 }
 
 -- What the start leaves.
-pub record Started (s w v : List ℕ) (r : Run) : Type 0 where
-  pub holds : (b : Book) → decode s ≡ accepted b → Holds s b v r (root b ∷ [])
-  pub state : r .state ≡ 2
+pub record Started (image work v : List ℕ) (r : Run) : Type 0 where
+  pub holds : (b : Book) → decode image ≡ accepted b → Holds image b v r (root b ∷ [])
+  pub state : r .state ≡ AGENDA
   pub nodes : r .nodes ≡ 0
   pub count : r .count ≡ 0
-  pub later : drop 16384 v ≡ drop 16384 w
+  pub later : drop layout.end v ≡ drop layout.end work
 
-module _ (s w v : List ℕ) (f : Filled s w v) (goals : ℕ) (g : goals ≡ fieldAt s 9) where
+module _ (image work v : List ℕ) (f : Filled image work v) (clauses : ℕ) (g : clauses ≡ clauseCountAt image) where
   abbrev its : Book
-  its = bookOf s
+  its = bookIn image
 
-  agenda : Agenda s its (of v) v 0 11 (11 + 2 * goals) 2050 (map want (its .goal) ++ map keep (its .constraints))
+  agenda : Leads image its (of v) v 0 (rootAgenda clauses) (map want (its .goal) ++ map keep (its .constraints))
+  unfolding clauseCountAt
   agenda =
-      let sh : Shown s its = shown s its (f .ground .book) in
-      go goals (its .goal) (g ∙ sh .goals) (sh .goal)
+      let sh : Shown image its = shown image its (f .ground .book) in
+      go clauses (its .goal) (g ∙ ap (λ (n : ℕ). goalAt + 2 * n) (sh .goals)) (sh .goal)
     where
-      go : (n : ℕ) (ls : List Lit) → n ≡ length ls → Stands s 11 (ofLits ls) → Agenda s its (of v) v 0 11 (11 + 2 * n) 2050 (map want ls ++ map keep (its .constraints))
-      go n [] x st = Agenda.linked {at = 11} {end = 11 + 2 * n} (omega (arith, x)) (omega arith) (Tail.rules 0 (omega arith))
-      go n (l ∷ ls) x st =
-          Agenda.more
-          (subst (λ (ks : List Lit). Own s (of v) 11 (11 + 2 * n) (map want ks)) (lits-at s 11 (l ∷ ls) st)
-          (Own.lits {at = 11} {end = 11 + 2 * n} (length ls) (omega (arith, x)) (omega (arith, x, length-lits (l ∷ ls), stands-within (ofLit l) (ofLits ls) st))))
-          (Tail.rules 0 (omega arith))
+      go : (end : ℕ) (ls : List Lit) → end ≡ goalAt + 2 * length ls → Stands image goalAt (ofLits ls)
+          → Leads image its (of v) v 0 (rootAgenda end) (map want ls ++ map keep (its .constraints))
+      go end [] x st = Leads.linked (omega (arith, x)) (omega arith) (Tail.constraints-from 0 (omega arith))
+      go end (l ∷ ls) x st =
+          Leads.more
+          (subst (λ (ks : List Lit). Own image (of v) goalAt end (map want ks)) (lits-at image goalAt (l ∷ ls) st)
+          (Own.lits (length ls) (omega (arith, x)) (omega (arith, x, length-lits (l ∷ ls), stands-within (ofLit l) (ofLits ls) st))))
+          (Tail.constraints-from 0 (omega arith))
 
   gather-none : (n : ℕ) → gather n (λ (j : ℕ). false) ≡ 0
   unfolding gather
@@ -64,10 +74,10 @@ module _ (s w v : List ℕ) (f : Filled s w v) (goals : ℕ) (g : goals ≡ fiel
 
   root-fine : Fine its 0 (root its)
   root-fine =
-      let fine : Within limits its = within s its (f .ground .book) in
-      (omega (arith, root-frames its, fine .constraints, fine .atoms, fine .clauses), root-named its (orderly s its (f .ground .book)))
+      let fine : Within limits its = within image its (f .ground .book) in
+      (omega (arith, root-frames its, fine .constraints, fine .atoms, fine .clauses), root-named its (orderly image its (f .ground .book)))
 
-  root-holds : Holds s its v (rootRun goals) (root its ∷ [])
+  root-holds : Holds image its v (rootRun clauses) (root its ∷ [])
   root-holds = record {
     tab = of v;
     height = 0;
@@ -82,14 +92,31 @@ module _ (s w v : List ℕ) (f : Filled s w v) (goals : ℕ) (g : goals ≡ fiel
     chosen = set-none;
     marked = refl;
     top = refl;
-    hand = Hand.agenda refl agenda root-fine;
+    hand = Hand.agenda agenda root-fine;
   }
 
-  pub started : (r : Run) → r ≡ rootRun goals → Started s w v r
+  pub started : (r : Run) → r ≡ rootRun clauses → Started image work v r
   started r e = record {
-    holds = λ b i. subst₂ (λ (c : Book) (o : Run). Holds s c v o (root c ∷ [])) (book-of s b i) (sym e) root-holds;
+    holds = λ b i. subst₂ (λ (c : Book) (o : Run). Holds image c v o (root c ∷ [])) (book-in image b i) (sym e) root-holds;
     state = ap (λ (o : Run). o .state) e;
     nodes = ap (λ (o : Run). o .nodes) e;
     count = ap (λ (o : Run). o .count) e;
-    later = behind-stays w v 16384 (f .size) (λ j h. f .stays j (omega arith));
+    later = behind-stays work v layout.end (f .size) (λ j h. f .stays j (omega arith));
   }
+
+-- ---- the search begins at the root
+
+pub begins : (image : List ℕ) (budget : ℕ) (sets work v : List ℕ) (r : Run) → IsBook image → Started image work v r → length sets ≤ longest → Searching image budget sets v r
+begins image budget sets work v r i h n = record {
+  b = bookIn image;
+  all = root (bookIn image) ∷ [];
+  holds = h .holds (bookIn image) i;
+  nodes = omega (arith, h .nodes);
+  count = omega (arith, h .count);
+  entries = n;
+  answer = start (r .nodes) (r .count) (h .nodes) (h .count);
+}
+  where
+    start : (n c : ℕ) → n ≡ 0 → c ≡ 0
+        → run-from (bookIn image) (length sets) budget (root (bookIn image)) ≡ run (bookIn image) (length sets) (budget - n) (root (bookIn image) ∷ []) (take c sets) n
+    start n c p q = rw (p, q, sub-zero)

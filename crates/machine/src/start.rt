@@ -1,36 +1,41 @@
 // The start of a search: the tables are filled, and the root's agenda is in hand.
-use super::run::Run;
-use book::fields::field_at;
+use area::CELLS;
+use area::FRAMES;
+use area::TRAIL;
+use image::front;
+use memory::run::AGENDA;
+use memory::run::Agenda;
+use memory::run::Run;
 ghost use mathlib.Core.Path.{_≡_};
-ghost use Prim.Native.Nat.{_≤_};
-ghost use lib.ListN.{length};
-ghost use Rattle.tables.specs.Clauses.{IsBook};
+ghost use Rattle.area.specs.Area as layout;
+ghost use Rattle.image.specs.Accepted.{IsBook};
 ghost use Rattle.machine.specs.Start.{rootRun, Started};
 
-// The root: the goal, and then the constraints.
-fn root(goals: usize) -> Run
-    requires { ⌜ goals ≤ 16 ⌝ }
-    ensures { λ r. ⌜ r ≡ rootRun goals ⌝ }
+// The root: the goal, which ends where the clause count stands, and then the constraints.
+fn root(clauses: usize) -> Run
+    ensures { λ r. ⌜ r ≡ rootRun clauses ⌝ }
 {
     Run {
-        state: 2,
+        state: AGENDA,
         task: 0,
-        at: 11,
-        end: 11 + 2 * goals,
-        link: 2050,
-        marked: 7560,
-        top: 8584,
+        agenda: Agenda {
+            at: front::GOAL,
+            end: clauses,
+            link: CELLS,
+        },
+        marked: TRAIL,
+        top: FRAMES,
         nodes: 0,
         count: 0,
         set: 0,
     }
 }
 
+// The tables are filled, and the root is due.
 pub fn start(image: &[u8], work: &mut [u32]) -> Run
-    requires { ⌜ IsBook (now image) × (16384 ≤ length (now work)) ⌝ }
+    requires { ⌜ IsBook (now image) × layout.Long (now work) ⌝ }
     ensures { λ r. ⌜ Started (now (image .entry)) (now (work .entry)) (now (work .exit)) r ⌝ }
 {
-    let goals = field_at(image, 9) as usize;
     tables::fill(image, work);
-    root(goals)
+    root(front::clauses(image))
 }

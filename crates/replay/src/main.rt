@@ -1,6 +1,6 @@
 // A test driver over the engine. It reads cases from standard input until that ends, and writes a line for each. A case is
 // an operation byte and what that operation takes; all numbers are big-endian, and an image is its length in four bytes and
-// then its bytes, at most 16,384. Before each call every list entry is 7 and every work number 9. Anything malformed ends the run with the line
+// then its bytes, at most 16,384. Before each call every list entry is 7 and every work number 9 (input). Anything malformed ends the run with the line
 // `bad case`.
 //
 //   1 read    image                                             accepted | refused R
@@ -13,21 +13,8 @@
 //                                                               refused R nodes N, then as for 3
 //   5 join    two counts with their sets, room (two bytes)      joined K | refused R, then ` sets` and the room's entries
 
-mod input;
-mod output;
-
-use book::Reading;
-use engine::Joined;
-use engine::Judgement;
-use engine::Listing;
-use engine::Verdict;
-
-fn read(image: &[u8]) {
-    match book::read(image) {
-        Reading::Accepted => output::line(b"accepted"),
-        Reading::Refused(r) => output::numbered(b"refused ", r as u64),
-    }
-}
+use cases::input;
+use cases::output;
 
 fn read_case() -> bool {
     let mut image = input::image_buffer();
@@ -36,17 +23,8 @@ fn read_case() -> bool {
         return false;
     }
     let n = taken.value;
-    read(&image[..n]);
+    answers::read(&image[..n]);
     true
-}
-
-fn judge(image: &[u8], set: u64) {
-    match engine::judge(image, set) {
-        Judgement::Explains => output::line(b"explains"),
-        Judgement::FalseGoal(p) => output::numbered(b"goal ", p as u64),
-        Judgement::BrokenConstraint(p) => output::numbered(b"constraint ", p as u64),
-        Judgement::Refused(r) => output::numbered(b"refused ", r as u64),
-    }
 }
 
 fn judge_case() -> bool {
@@ -60,23 +38,8 @@ fn judge_case() -> bool {
         return false;
     }
     let n = taken.value;
-    judge(&image[..n], set.value);
+    answers::judge(&image[..n], set.value);
     true
-}
-
-// What a search leaves behind.
-fn left(sets: &[u64], work: &[u32]) {
-    output::entries(sets);
-    output::work_state(work);
-    output::end();
-}
-
-fn list(image: &[u8], budget: u32, sets: &mut [u64], work: &mut [u32]) {
-    match engine::list(image, budget, sets, work) {
-        Listing::Listed(k, n) => output::searched(b"listed ", k, n),
-        Listing::Refused(r, n) => output::searched(b"refused ", r as u32, n),
-    }
-    left(sets, work);
 }
 
 fn list_case() -> bool {
@@ -94,19 +57,8 @@ fn list_case() -> bool {
     let n = taken.value;
     let r = means.room;
     let w = means.space;
-    list(&image[..n], means.budget, &mut sets[..r], &mut work[..w]);
+    answers::list(&image[..n], means.budget, &mut sets[..r], &mut work[..w]);
     true
-}
-
-fn verdict(image: &[u8], hypothesis: u32, budget: u32, sets: &mut [u64], work: &mut [u32]) {
-    match engine::verdict_on(image, hypothesis, budget, sets, work) {
-        Verdict::Unexplained(n) => output::count(b"unexplained nodes ", n as u64),
-        Verdict::Needed(n) => output::count(b"needed nodes ", n as u64),
-        Verdict::Possible(n) => output::count(b"possible nodes ", n as u64),
-        Verdict::RuledOut(n) => output::count(b"ruled out nodes ", n as u64),
-        Verdict::Refused(r, n) => output::searched(b"refused ", r as u32, n),
-    }
-    left(sets, work);
 }
 
 fn verdict_case() -> bool {
@@ -128,7 +80,7 @@ fn verdict_case() -> bool {
     let n = taken.value;
     let r = means.room;
     let w = means.space;
-    verdict(
+    answers::verdict(
         &image[..n],
         hypothesis.value,
         means.budget,
@@ -138,22 +90,13 @@ fn verdict_case() -> bool {
     true
 }
 
-fn join(left: &[u64], right: &[u64], out: &mut [u64]) {
-    match engine::join(left, right, out) {
-        Joined::Count(k) => output::count(b"joined ", k as u64),
-        Joined::Refused(r) => output::count(b"refused ", r as u64),
-    }
-    output::entries(out);
-    output::end();
-}
-
 fn join_case() -> bool {
     let mut left = input::list_buffer();
     let mut right = input::list_buffer();
     let mut out = input::list_buffer();
     let n = input::take_list(&mut left);
     let m = input::take_list(&mut right);
-    let room = input::take_room(1100);
+    let room = input::take_room(input::ENTRIES);
     if !n.ok {
         return false;
     }
@@ -166,7 +109,7 @@ fn join_case() -> bool {
     let a = n.value;
     let b = m.value;
     let c = room.value;
-    join(&left[..a], &right[..b], &mut out[..c]);
+    answers::join(&left[..a], &right[..b], &mut out[..c]);
     true
 }
 
@@ -186,9 +129,12 @@ fn bad_case() {
     output::line(b"bad case");
 }
 
+// A run ends after so many cases at the latest: a program has an end.
+const MOST_CASES: u32 = 1_000_000_000;
+
 fn main() {
     let mut n: u32 = 0;
-    while n < 1_000_000_000 {
+    while n < MOST_CASES {
         let operation = input::take_u8();
         if !operation.ok {
             return;

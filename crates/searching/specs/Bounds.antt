@@ -10,18 +10,20 @@ use mathlib.Core.List.{List, [], _∷_, map, List·Memᴰ·not-nil, List·Memᴰ
 use borrow.Author.Tests.{eq-eqb}
 use lib.Dec.{eqb}
 use lib.ListN.{length}
-use Rattle.base.specs.Bools.{choose, choose-true, choose-false}
-use Rattle.base.specs.Lists.{_∈_, Every, every-none, every-more, every-first, every-rest, every-both, sum}
-use Rattle.base.specs.Parts.{filter, put}
+use Rattle.base.specs.paper.Bools.{choose}
+use Rattle.base.specs.Bools.{choose-true, choose-false}
+use Rattle.base.specs.paper.Lists.{_∈_, Every, sum, filter, put, below}
+use Rattle.base.specs.Lists.{every-none, every-more, every-first, every-rest, every-both}
 use Rattle.base.specs.Flat.{map-∈, every-map, sum-append, sum-map, sum-same, sum-less, sum-add, sum-none, sum-sucs}
-use Rattle.base.specs.Below.{below, below-in, below-once, length-below}
-use Rattle.book.specs.Book.{Lit, Clause, Constraint, Book}
-use Rattle.book.specs.Sound.{Known, Orderly}
-use Rattle.judging.specs.Meaning.{abducible, clausesFor}
-use Rattle.judging.specs.Model.{for-clause}
-use Rattle.searching.specs.Rules.{opposite, opposites, Task, want, pick, break, keep, Node, root, on, unfolds, opens}
-use Rattle.searching.specs.Steps.{∈-on, ∉-off, Result, gone, joins, picks, Child, child}
-use Rattle.searching.specs.Tree.{weight, marked, potential, unmarked, falls, opposites-length, wants-weight}
+use Rattle.base.specs.Below.{below-in, below-once, length-below}
+use Rattle.image.specs.paper.Book.{Lit, Clause, Constraint, Book}
+use Rattle.image.specs.Sound.{Known, Orderly}
+use Rattle.meaning.specs.paper.Meaning.{abducible, clausesFor}
+use Rattle.meaning.specs.Model.{for-clause}
+use Rattle.searching.specs.paper.Rules.{opposite, opposites, Task, want, pick, break, keep, Node, root, on, unfolds, opens}
+use Rattle.searching.specs.Results.{∈-on, ∉-off, Result, gone, joins, picks, Child, child}
+use Rattle.searching.specs.paper.Tree.{weight, marked, potential}
+use Rattle.searching.specs.TreeLaws.{unmarked, falls, opposites-length, wants-weight}
 
 -- a step that must be held counts one: a literal joins, or one of several lists is picked
 unfoldable pub held : List Lit → Task → ℕ

@@ -5,17 +5,19 @@ use mathlib.Core.Path.{_≡_, refl}
 use mathlib.Core.Bool.{true}
 use mathlib.Core.List.{List, [], _∷_, map}
 use lib.Count.{ones}
-use Rattle.base.specs.Least.{insert}
-use Rattle.base.specs.Order.{place, sort}
-use Rattle.book.specs.Book.{Lit, Clause, Book}
-use Rattle.book.specs.Walk.{fieldAt, field, running}
-use Rattle.book.specs.Faults.{wrongAtoms, wrongAbducibles, wrongCount, wrongLit, wrongHead, wrongSize, wrongClause, wrongConditions, wrongAlternative}
-use Rattle.book.specs.Loops.{pending, below, quiet, loopFree}
-use Rattle.book.specs.Decode.{literal, clause, alternative, alternatives, inside, constraint, counted, rules, book, ends, whole, lengthField, wrongFront, Decoded, accepted, refused, inOrder, decode}
-use Rattle.book.specs.Accepted.{orderly}
-use Rattle.judging.specs.Meaning.{clausesFor}
-use Rattle.searching.specs.Rules.{Outcome, finished, used-up, no-room, on, results, after, gather, noting, run, listing}
-use Rattle.searching.specs.Main.{Explanations, listed}
+use Rattle.base.specs.paper.Least.{insert}
+use Rattle.base.specs.paper.Order.{place, sort}
+use Rattle.image.specs.paper.Book.{Lit, Clause, Book}
+use Rattle.image.specs.paper.Walk.{fieldAt, field, running}
+use Rattle.image.specs.paper.Faults.{wrongAtoms, wrongAbducibles, wrongCount, wrongLit, wrongHead, wrongSize, wrongClause, wrongConditions, wrongAlternative}
+use Rattle.image.specs.paper.Loops.{pending, quiet, loopFree}
+use Rattle.base.specs.paper.Lists.{below}
+use Rattle.image.specs.paper.Decode.{literal, clause, alternative, alternatives, inside, constraint, counted, clausesAndConstraints, book, ends, whole, lengthField, wrongFront, Decoded, accepted, refused, inOrder, decode}
+use Rattle.image.specs.Accepted.{orderly}
+use Rattle.meaning.specs.paper.Meaning.{clausesFor}
+use Rattle.searching.specs.paper.Rules.{Outcome, finished, used-up, no-room, on, results, after, gather, noting, run, searchEnd}
+use Rattle.searching.specs.paper.Explanations.{Explanations}
+use Rattle.searching.specs.Main.{listed}
 
 -- the bytes of a numeral, the highest first; the first byte of an image is 1, so none is lost
 unfoldable pub bytesIn : ℕ → ℕ → List ℕ → List ℕ
@@ -33,7 +35,7 @@ pub data Sounded : Type 0 where
 
 unfoldable pub soundedFrom : Decoded → ℕ → ℕ → Sounded
 soundedFrom (refused n) budget room = notRead n
-soundedFrom (accepted b) budget room = searched (listing b room budget)
+soundedFrom (accepted b) budget room = searched (searchEnd b room budget)
 
 pub record Sounding : Type 0 where
   pub image : ℕ
@@ -96,7 +98,7 @@ soundings =
 -- Each image is read, and its search ends as the table says.
 pub known-depths : map (λ (r : Sounding). soundedFrom (decode (bytes (r .image))) (r .budget) (r .room)) soundings
     ≡ map (λ (r : Sounding). searched (r .depth)) soundings
-unfolding bytesIn soundedFrom fieldAt field running wrongAtoms wrongAbducibles wrongCount wrongLit wrongHead wrongSize wrongClause wrongConditions wrongAlternative pending below quiet loopFree literal clause alternative alternatives inside constraint counted rules book ends whole lengthField wrongFront inOrder decode clausesFor on results after noting run insert place sort ones gather
+unfolding bytesIn soundedFrom fieldAt field running wrongAtoms wrongAbducibles wrongCount wrongLit wrongHead wrongSize wrongClause wrongConditions wrongAlternative pending below quiet loopFree literal clause alternative alternatives inside constraint counted clausesAndConstraints book ends whole lengthField wrongFront inOrder decode clausesFor on results after noting run insert place sort ones gather
 known-depths = refl
 
 -- the book of P1
@@ -118,11 +120,11 @@ spikeBook =
 
 -- P1 by the meaning alone: {fish} and {rock} are the smallest explanations of its book, and there is no other.
 pub spike-explained : Explanations spikeBook (1 ∷ 2 ∷ [])
-unfolding bytesIn fieldAt field running wrongAtoms wrongAbducibles wrongCount wrongLit wrongHead wrongSize wrongClause wrongConditions wrongAlternative pending below quiet loopFree literal clause alternative alternatives inside constraint counted rules book ends whole lengthField wrongFront inOrder decode clausesFor on results after noting run insert place sort ones gather
+unfolding bytesIn fieldAt field running wrongAtoms wrongAbducibles wrongCount wrongLit wrongHead wrongSize wrongClause wrongConditions wrongAlternative pending below quiet loopFree literal clause alternative alternatives inside constraint counted clausesAndConstraints book ends whole lengthField wrongFront inOrder decode clausesFor on results after noting run insert place sort ones gather
 spike-explained = listed spikeBook (orderly (bytes spike) spikeBook read) 256 15 (1 ∷ 2 ∷ []) 15 p1 .0
   where
     read : decode (bytes spike) ≡ accepted spikeBook
     read = refl
 
-    p1 : listing spikeBook 256 15 ≡ finished (1 ∷ 2 ∷ []) 15
+    p1 : searchEnd spikeBook 256 15 ≡ finished (1 ∷ 2 ∷ []) 15
     p1 = refl

@@ -6,13 +6,15 @@ use mathlib.Core.Path.{_≡_, refl, sym, ap, subst}
 use mathlib.Core.Bool.{Bool, true, false, not}
 use mathlib.Core.Logic.{_↔_, _⊎_, inl, inr, ⊎-elim}
 use mathlib.Core.List.{List, [], _∷_, map, List·Memᴰ·eq-of-singleton}
-use Rattle.base.specs.Bools.{choose, clash, both, both-left, both-right, either, either-left, either-right}
-use Rattle.base.specs.Lists.{_∈_, here, ∈-left, ∈-right, ∈-split, Every, Some, every-none, every-more, every-first, every-both, every-left, every-right, all, any, all-every, every-all, any-some, some-any}
+use Rattle.base.specs.paper.Bools.{choose}
+use Rattle.base.specs.Bools.{clash, both, both-left, both-right, either, either-left, either-right}
+use Rattle.base.specs.paper.Lists.{_∈_, Every, all, any}
+use Rattle.base.specs.Lists.{Some, here, ∈-left, ∈-right, ∈-split, every-none, every-more, every-first, every-both, every-left, every-right, all-every, every-all, any-some, some-any}
 use Rattle.base.specs.Tests.{all-fails, any-fails, fails-all, fails-any}
 use Rattle.base.specs.Flat.{∈-map, map-∈, every-map, map-every}
-use Rattle.book.specs.Book.{Lit, Clause, Constraint, Book}
-use Rattle.judging.specs.Meaning.{true-in, all-true, some-body, value, holds, explains}
-use Rattle.searching.specs.Rules.{opposite, Task, want, pick, opposites, break, keep, root, unfolds}
+use Rattle.image.specs.paper.Book.{Lit, Clause, Constraint, Book}
+use Rattle.meaning.specs.paper.Meaning.{true-in, all-true, some-body, value, holds, explains}
+use Rattle.searching.specs.paper.Rules.{opposite, Task, want, pick, opposites, break, keep, root, unfolds}
 
 module _ (P : Lit → Type 0) where
   -- what settles a defined atom: true, if a clause has every body literal known; false, if each clause has one whose opposite is known

@@ -1,7 +1,7 @@
--- The search: its rules, its tree, and what a finished search lists.
-pub mod Rules
-pub mod Steps
-pub mod Tree
+-- The search: its rules and its tree, and what a finished search lists.
+pub mod paper
+pub mod Results
+pub mod TreeLaws
 pub mod Known
 pub mod Sheets
 pub mod Successes

@@ -1,4 +1,4 @@
--- The main theorem: on an accepted book a finished search lists exactly the smallest explaining sets by the meaning of crate judging, each
+-- The main theorem: on an accepted book a finished search lists exactly the smallest explaining sets by the meaning of crate meaning, each
 -- once and in order; and no other list does.
 -- Assumes nothing.
 use Prim.Native.Nat.{ℕ}
@@ -7,23 +7,20 @@ use mathlib.Core.Bool.{true}
 use mathlib.Core.Logic.{_↔_}
 use mathlib.Core.List.{List, [], _∷_, List·Memᴰ·not-nil}
 use native.Mathlib.Omega.{arith}
-use Rattle.base.specs.Lists.{_∈_, here, Some}
-use Rattle.base.specs.Parts.{Once}
-use Rattle.base.specs.Members.{Inside}
-use Rattle.book.specs.Book.{Book}
-use Rattle.book.specs.Sound.{Orderly}
+use Rattle.base.specs.paper.Lists.{_∈_, Once}
+use Rattle.base.specs.Lists.{Some, here}
+use Rattle.base.specs.paper.Members.{Inside}
+use Rattle.image.specs.paper.Book.{Book}
+use Rattle.image.specs.Sound.{Orderly}
 use Rattle.sets.specs.SetLaws.{inside-has, has-inside, inside-antisymmetric}
-use Rattle.sets.specs.Kept.{smallest, Smallest as Least-of, Ordered, sort, smallest-keeps, smallest-members, smallest-once, sort-members, sort-ordered, ordered-once, ordered-unique}
-use Rattle.judging.specs.Meaning.{explains, Smallest}
-use Rattle.searching.specs.Rules.{root, Outcome, finished, used-up, no-room, run-from, sent, listing}
-use Rattle.searching.specs.Tree.{size}
+use Rattle.sets.specs.paper.Kept.{smallest, sort}
+use Rattle.sets.specs.KeptLaws.{LeastOf, smallest-keeps, smallest-members, smallest-once, sort-members, sort-ordered, ordered-once, ordered-unique}
+use Rattle.meaning.specs.paper.Meaning.{explains, Smallest}
+use Rattle.searching.specs.paper.Rules.{root, Outcome, finished, used-up, no-room, run-from, sent, searchEnd}
+use Rattle.searching.specs.paper.Tree.{size}
 use Rattle.searching.specs.Successes.{sets, root-starts, sets-explain, sets-under, root-agrees, sets-abducible}
 use Rattle.searching.specs.Outcomes.{kept-smallest, finished-exactly}
-
--- The list names exactly the smallest explaining sets, in order: by number of members, then by value. So each stands there once.
-pub record Explanations (b : Book) (l : List ℕ) : Type 0 where
-  pub members : (d : ℕ) → d ∈ l ↔ Smallest b d
-  pub ordered : Ordered l
+use Rattle.searching.specs.paper.Explanations.{Explanations}
 
 pub explanations-once : (b : Book) (l : List ℕ) → Explanations b l → Once l
 explanations-once b l e = ordered-once l (e .ordered)
@@ -36,7 +33,7 @@ explanations-unique b l m e f =
 
 module _ (b : Book) (o : Orderly b) where
   -- the smallest of the sets that the tree reaches are the smallest explaining sets
-  reached-smallest : (d : ℕ) → Least-of (λ (s : ℕ). s ∈ sets b (root b)) d ↔ Smallest b d
+  reached-smallest : (d : ℕ) → LeastOf (λ (s : ℕ). s ∈ sets b (root b)) d ↔ Smallest b d
   reached-smallest d = (to, back)
     where
       explain : (s : ℕ) → s ∈ sets b (root b) → explains b s ≡ true
@@ -45,7 +42,7 @@ module _ (b : Book) (o : Orderly b) where
       under : (s : ℕ) → explains b s ≡ true → Some (λ (k : ℕ). Inside k s) (sets b (root b))
       under s e = sets-under b o (root b) s (root-agrees b o s e)
 
-      to : Least-of (λ (s : ℕ). s ∈ sets b (root b)) d → Smallest b d
+      to : LeastOf (λ (s : ℕ). s ∈ sets b (root b)) d → Smallest b d
       to h = record {
         abducibles = sets-abducible b (root b) d (h .0);
         explaining = explain d (h .0);
@@ -57,7 +54,7 @@ module _ (b : Book) (o : Orderly b) where
               let e = h .1 (w .0) (w .1) (has-inside (w .0) d (λ j p. i j (w .2 j p))) in
               inside-antisymmetric s d (has-inside s d i) (has-inside d s (subst (λ (k : ℕ). Inside k s) e (w .2)))
 
-      back : Smallest b d → Least-of (λ (s : ℕ). s ∈ sets b (root b)) d
+      back : Smallest b d → LeastOf (λ (s : ℕ). s ∈ sets b (root b)) d
       back h =
           let w = under d (h .explaining) in (
             subst (λ (k : ℕ). k ∈ sets b (root b)) (h .least (w .0) (w .2) (explain (w .0) (w .1))) (w .1),
@@ -101,7 +98,7 @@ module _ (b : Book) (o : Orderly b) where
   }
 
   -- A finished search lists exactly the smallest explaining sets, each once, in order; its node number is the size of the tree.
-  pub listed : (room budget : ℕ) (l : List ℕ) (n : ℕ) → listing b room budget ≡ finished l n → Explanations b l × (n ≡ size b (root b))
+  pub listed : (room budget : ℕ) (l : List ℕ) (n : ℕ) → searchEnd b room budget ≡ finished l n → Explanations b l × (n ≡ size b (root b))
   listed room budget l n e = go (run-from b room budget (root b)) refl e
     where
       done : (kept : List ℕ) (k : ℕ) → run-from b room budget (root b) ≡ finished kept k → l ≡ sort kept → n ≡ k → Explanations b l × (n ≡ size b (root b))

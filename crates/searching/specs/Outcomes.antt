@@ -11,14 +11,16 @@ use borrow.Author.Tests.{ltb-true, ltb-false}
 use lib.Dec.{ltb}
 use lib.ListN.{length, take}
 use lib.Seq.{take-length}
-use Rattle.base.specs.Bools.{choose, decide}
-use Rattle.base.specs.Lists.{flat}
+use Rattle.base.specs.paper.Bools.{choose}
+use Rattle.base.specs.Bools.{decide}
+use Rattle.base.specs.paper.Lists.{flat}
 use Rattle.base.specs.Flat.{flat-append}
-use Rattle.base.specs.Least
-use Rattle.book.specs.Book.{Lit, Book}
-use Rattle.sets.specs.Kept.{insert, smallest}
-use Rattle.searching.specs.Rules.{Task, Node, children, noting, Outcome, finished, used-up, no-room, run, run-from}
-use Rattle.searching.specs.Tree.{visits, size, visits-law}
+use Rattle.base.specs.paper.Least
+use Rattle.image.specs.paper.Book.{Lit, Book}
+use Rattle.sets.specs.paper.Kept.{insert, smallest}
+use Rattle.searching.specs.paper.Rules.{Task, Node, children, noting, Outcome, finished, used-up, no-room, run, run-from}
+use Rattle.searching.specs.paper.Tree.{visits, size}
+use Rattle.searching.specs.TreeLaws.{visits-law}
 use Rattle.searching.specs.Successes.{reached, sets}
 
 -- the kept sets after some nodes have been visited

@@ -10,18 +10,20 @@ use mathlib.Core.Logic.{_⊎_, inl, inr}
 use mathlib.Core.List.{List, map}
 use borrow.Author.Tests.{lt-ltb}
 use lib.Dec.{eqb, ltb, leb·suc-suc, leb·suc-zero}
-use Rattle.base.specs.Bools.{choose, clash, both, both-left, both-right, choose-true, choose-false, same-test}
-use Rattle.base.specs.Lists.{_∈_, Every, Some}
+use Rattle.base.specs.paper.Bools.{choose}
+use Rattle.base.specs.Bools.{clash, both, both-left, both-right, choose-true, choose-false, same-test}
+use Rattle.base.specs.paper.Lists.{_∈_, Every, below}
+use Rattle.base.specs.Lists.{Some}
 use Rattle.base.specs.Flat.{∈-map, map-∈}
-use Rattle.base.specs.Members.{has}
-use Rattle.base.specs.Below.{below, below-in}
-use Rattle.book.specs.Book.{Lit, Clause, Constraint, Book}
-use Rattle.book.specs.Sound.{Orderly}
+use Rattle.base.specs.paper.Members.{has}
+use Rattle.base.specs.Below.{below-in}
+use Rattle.image.specs.paper.Book.{Lit, Clause, Constraint, Book}
+use Rattle.image.specs.Sound.{Orderly}
 use Rattle.sets.specs.SetLaws.{has-built-zero, has-built-suc, same-members}
-use Rattle.judging.specs.Meaning.{abducible, clausesFor, some-body, value, explains}
-use Rattle.judging.specs.Model.{for-clause, by-rank, value-model}
-use Rattle.searching.specs.Rules.{opposite, on, gather, assumed}
-use Rattle.searching.specs.Steps.{on-∈, ∈-on, ∉-off}
+use Rattle.meaning.specs.paper.Meaning.{abducible, clausesFor, some-body, value, explains}
+use Rattle.meaning.specs.Model.{for-clause, by-rank, value-model}
+use Rattle.searching.specs.paper.Rules.{opposite, on, gather, assumed}
+use Rattle.searching.specs.Results.{on-∈, ∈-on, ∉-off}
 use Rattle.searching.specs.Known.{Met, Held, Fine, On, met-change, True, met-found, found-met, fine-explains}
 
 -- the atom p held true, or held false

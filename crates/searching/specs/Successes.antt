@@ -7,16 +7,19 @@ use mathlib.Core.Bool.{Bool, true, false, not, true≢false, false≢true}
 use mathlib.Core.Logic.{_⊎_, inl, inr, ⊎-elim}
 use mathlib.Core.List.{List, [], _∷_, map, List·Memᴰ·not-nil, List·Memᴰ·cases-cons, List·Memᴰ·eq-of-singleton}
 use borrow.Author.Tests.{ltb-true}
-use Rattle.base.specs.Bools.{choose, clash, both-left, both-right}
-use Rattle.base.specs.Lists.{_∈_, here, Every, Some, every-none, every-more, every-first, every-rest, every-both, every-left, every-right, flat}
+use Rattle.base.specs.paper.Bools.{choose}
+use Rattle.base.specs.Bools.{clash, both-left, both-right}
+use Rattle.base.specs.paper.Lists.{_∈_, Every, flat}
+use Rattle.base.specs.Lists.{Some, here, every-none, every-more, every-first, every-rest, every-both, every-left, every-right}
 use Rattle.base.specs.Flat.{∈-flat, flat-∈, map-every, every-map}
-use Rattle.base.specs.Members.{has, Inside}
-use Rattle.book.specs.Book.{Lit, Book}
-use Rattle.book.specs.Sound.{Orderly}
-use Rattle.judging.specs.Meaning.{abducible, clausesFor, value, explains}
-use Rattle.searching.specs.Rules.{opposite, Task, want, pick, Node, root, on, unfolds, opens, children, assumed}
-use Rattle.searching.specs.Steps.{on-∈, off-∉, opposite-twice, before, Result, gone, joins, picks, Child, child, child-of, of-child}
-use Rattle.searching.specs.Tree.{visits, by-children, visits-cases, visits-here, visits-below}
+use Rattle.base.specs.paper.Members.{has, Inside}
+use Rattle.image.specs.paper.Book.{Lit, Book}
+use Rattle.image.specs.Sound.{Orderly}
+use Rattle.meaning.specs.paper.Meaning.{abducible, clausesFor, value, explains}
+use Rattle.searching.specs.paper.Rules.{opposite, Task, want, pick, Node, root, on, unfolds, opens, children, assumed}
+use Rattle.searching.specs.Results.{on-∈, off-∉, opposite-twice, before, Result, gone, joins, picks, Child, child, child-of, of-child}
+use Rattle.searching.specs.paper.Tree.{visits}
+use Rattle.searching.specs.TreeLaws.{by-children, visits-cases, visits-here, visits-below}
 use Rattle.searching.specs.Known.{Met, Fine, Done, On, done-unfolds, unfolds-done, done-root, root-done, True, never-both, fine-explains}
 use Rattle.searching.specs.Sheets.{side, Accepted, has-assumed, Right, settles, given, accepted-explains}
 

@@ -1,6 +1,4 @@
--- Sets as numbers, the kept sets, and the joiner.
-pub mod Sets
+-- Sets as numbers, the kept sets and their order: the definitions, and the laws on them.
+pub mod paper
 pub mod SetLaws
-pub mod Kept
-pub mod Join
-pub mod JoinLaws
+pub mod KeptLaws

@@ -3,7 +3,7 @@
 use mathlib.Core.Path.{_≡_, refl, sym, ap, _∙_, fun-ext}
 use mathlib.Core.Bool.{Bool, true, false, _&&_}
 use mathlib.Core.Logic.{_↔_, _⊎_, inl, inr, ⊎-elim}
-use mathlib.Core.List.{List, [], _∷_, map, Memᴰ·map, Memᴰ·of-map}
+use mathlib.Core.List.{List, _∷_, map, Memᴰ·map, Memᴰ·of-map, []}
 use Prim.Native.Nat.{ℕ, zero, suc, _+_, _-_, _*_, _/_, _%_, _^_, min, _≤_, _<_}
 use native.Mathlib.Nat.{div-one, le-of-suc-le-suc, not-suc-le-zero, zero-lt-suc, pow-suc, div-mul-le-self, le-trans, lt-of-lt-of-le, mul-le-mul-right, le-of-eq, one-mul, mod-lt, lt-of-not-le, not-le-of-lt}
 use native.Mathlib.Omega.{arith}
@@ -15,10 +15,15 @@ use lib.Dec.{ltb, eqb}
 use lib.ListN.{length}
 use lib.Pow.{shr-shr, split, pow-pos, pow-mono}
 use Rattle.base.specs.Bools.{clash, decide, both, both-left, both-right, either, either-left, either-right, same-test}
-use Rattle.base.specs.Lists.{_∈_, here, there}
-use Rattle.base.specs.Parts.{filter, put, filter-has, filter-from, Pairwise, pairwise-filter}
-use Rattle.base.specs.Members.{has}
-use Rattle.sets.specs.Sets.{inside, upTo, members, sooner}
+use Rattle.base.specs.paper.Lists.{_∈_, filter, put, Pairwise}
+use Rattle.base.specs.Lists.{here, there}
+use Rattle.base.specs.Parts.{filter-has, filter-from, pairwise-filter}
+use Rattle.base.specs.paper.Members.{has}
+use Rattle.sets.specs.paper.Sets.{inside, sooner}
+
+-- the code's sets have so many bits
+abbrev pub setBits : ℕ
+setBits = 64
 
 -- ---- membership, digit by digit
 
@@ -139,6 +144,15 @@ has-within d k f =
 
 -- ---- the members, listed and counted
 
+-- the numbers below n, ascending
+unfoldable pub upTo : ℕ → List ℕ
+upTo zero = []
+upTo (suc n) = 0 ∷ map suc (upTo n)
+
+-- the members of d, ascending
+unfoldable pub members : ℕ → List ℕ
+members d = filter (has d) (upTo d)
+
 upTo-has : (n j : ℕ) → j < n → j ∈ upTo n
 unfolding upTo
 upTo-has zero j h = absurd (not-suc-le-zero h)
@@ -242,3 +256,8 @@ sooner-total a b p q = go (decide (ltb (ones a) (ones b))) (decide (ltb (ones b)
     go (inr l) (inr m) (inl s) t = no p (inr (omega (arith, ltb-false, ltb-true)))
     go (inr l) (inr m) (inr s) (inl t) = no q (inr (omega (arith, ltb-false, ltb-true)))
     go (inr l) (inr m) (inr s) (inr t) = omega (arith, ltb-false)
+
+-- document 01's example: {2} before {0,1}
+two-before-zero-one : sooner (2 ^ 2) (2 ^ 0 + 2 ^ 1) ≡ true
+unfolding ones
+two-before-zero-one = refl

@@ -3,7 +3,7 @@ ghost use mathlib.Core.Path.{_≡_};
 ghost use mathlib.Core.List.{_++_};
 ghost use Prim.Native.Nat.{_-_, _≤_};
 ghost use lib.ListN.{length, take, drop};
-ghost use Rattle.sets.specs.Kept.{zeros};
+ghost use Rattle.sets.specs.paper.Kept.{zeros};
 
 // Copies the first `count` entries of `from` to the front of `to`.
 pub fn copy(from: &[u64], count: usize, to: &mut [u64])

@@ -1,4 +1,4 @@
--- The image's book, and the tables of its clauses, as the loop fills them.
+-- The tables of the book's clauses, as the loop fills them.
 -- Assumes nothing.
 use Prim.Native.Nat.{ℕ, zero, suc, _+_, _-_, _*_, _/_, _≤_, _<_}
 use native.Mathlib.Omega.{arith}
@@ -8,41 +8,23 @@ use mathlib.Core.List.{List, [], _∷_, append-nil}
 use borrow.Author.Tests.{eqb-true, eqb-false}
 use lib.Dec.{eqb}
 use lib.ListN.{length, getD, set, take, length-set}
-use Rattle.base.specs.Lists.{_∈_, here, there, sum}
-use Rattle.book.specs.Book.{Lit, Clause, Book, bodyCount}
-use Rattle.book.specs.Encode.{longest}
-use Rattle.book.specs.Walk.{fieldAt}
-use Rattle.book.specs.Decode.{Decoded, accepted, refused, decode}
-use Rattle.book.specs.Spell.{ofLits, ofClause, Stands}
-use Rattle.book.specs.StandsLaws.{stands-at, stands-value, stands-rest, stands-within}
-use Rattle.book.specs.Reads.{length-lits}
-use Rattle.book.specs.Shown.{litsAt, lits-at, skip, clausePlace, noClause, Shown, shown}
-use Rattle.book.specs.Written.{Within}
-use Rattle.book.specs.Faults.{limits}
-use Rattle.book.specs.Accepted.{within}
-use Rattle.searching.specs.Rules.{opposites}
-use Rattle.tables.specs.Ground.{Listed}
-use Rattle.tables.specs.Lay.{of, Literals, lits-fit, Row, stop, row-same, set-here, set-there, pair-stays, pair-first, pair-second, pair-length, OppositesLaid}
-
--- ---- the image's book
-
-abbrev pub theBook : Decoded → Book
-theBook (accepted b) = b
-theBook (refused n) = record { atoms = 0; abducibles = 0; goal = []; clauses = []; constraints = [] }
-
-unfoldable pub bookOf : List ℕ → Book
-bookOf s = theBook (decode s)
-
-pub book-of : (s : List ℕ) (b : Book) → decode s ≡ accepted b → bookOf s ≡ b
-unfolding bookOf
-book-of s b e = ap theBook e
-
-pub record IsBook (s : List ℕ) : Type 0 where
-  pub b : Book
-  pub book : decode s ≡ accepted b
-
-pub is-book : (s : List ℕ) → IsBook s → decode s ≡ accepted (bookOf s)
-is-book s i = i .book ∙ ap accepted (sym (book-of s (i .b) (i .book)))
+use Rattle.base.specs.paper.Lists.{_∈_, sum}
+use Rattle.base.specs.Lists.{here, there}
+use Rattle.image.specs.paper.Book.{Lit, Clause, Book, bodyCount}
+use Rattle.image.specs.Encode.{longest-image}
+use Rattle.image.specs.paper.Walk.{fieldAt}
+use Rattle.image.specs.paper.Decode.{accepted, decode}
+use Rattle.image.specs.Spell.{ofLits, ofClause, Stands}
+use Rattle.image.specs.StandsLaws.{stands-at, stands-value, stands-rest, stands-within}
+use Rattle.image.specs.Finds.{length-lits}
+use Rattle.image.specs.Shown.{litsAt, lits-at, skip, clausePlace, noClause, Shown, shown}
+use Rattle.image.specs.Written.{Within}
+use Rattle.image.specs.paper.Faults.{limits}
+use Rattle.image.specs.Accepted.{within, bookIn}
+use Rattle.searching.specs.paper.Rules.{opposites}
+use Rattle.area.specs.Area.{noLink, clauseRecords, constraintRecords, ways, wayWidth, trail, clauseRecord, clauseWay, Long}
+use Rattle.area.specs.Ground.{Listed}
+use Rattle.area.specs.Lay.{of, Short, Literals, lits-fit, Row, stop, row-same, set-here, set-there, pair-stays, pair-first, pair-second, pair-length, OppositesLaid}
 
 -- ---- sums up to a place
 
@@ -73,35 +55,38 @@ getD-∈ (a ∷ l) (suc i) d h = there (getD-∈ l i d (omega arith))
 
 -- ---- clauses
 
--- where the ways of clause i's opposites begin
-abbrev pub clauseWay : Book → ℕ → ℕ
-clauseWay b i = 2440 + 2 * length (b .clauses) + 2 * sum bodyCount (take i (b .clauses))
+-- where the ways that break clause i begin
+abbrev pub breakWays : Book → ℕ → ℕ
+breakWays b i = ways + wayWidth * (length (b .clauses) + sum bodyCount (take i (b .clauses)))
+
+abbrev pub clauseOf : Book → ℕ → Clause
+clauseOf b i = getD (b .clauses) i noClause
 
 -- clause i in the image
-pub record ClauseAt (s : List ℕ) (b : Book) (i : ℕ) : Type 0 where
-  pub size : fieldAt s (clausePlace s i) ≡ 2 * suc (length (getD (b .clauses) i noClause .body))
-  pub head : fieldAt s (clausePlace s i + 2) ≡ getD (b .clauses) i noClause .head
-  pub known : getD (b .clauses) i noClause .head < 256
-  pub literals : Literals s (clausePlace s i + 4) (length (getD (b .clauses) i noClause .body))
-  pub body : litsAt s (clausePlace s i + 4) (length (getD (b .clauses) i noClause .body)) ≡ getD (b .clauses) i noClause .body
-  pub next : clausePlace s i + 4 + 2 * length (getD (b .clauses) i noClause .body) ≡ clausePlace s (i + 1)
-  pub ways : clauseWay b i + 2 * length (getD (b .clauses) i noClause .body) ≡ clauseWay b (i + 1)
-  pub room : clauseWay b (i + 1) ≤ 7560
-  pub few : length (b .clauses) ≤ 512
+pub record ClauseAt (image : List ℕ) (b : Book) (i : ℕ) : Type 0 where
+  pub size : fieldAt image (clausePlace image i) ≡ 2 * suc (length (clauseOf b i .body))
+  pub head : fieldAt image (clausePlace image i + 2) ≡ clauseOf b i .head
+  pub known : clauseOf b i .head < limits .atoms
+  pub literals : Literals image (clausePlace image i + 4) (length (clauseOf b i .body))
+  pub body : litsAt image (clausePlace image i + 4) (length (clauseOf b i .body)) ≡ clauseOf b i .body
+  pub next : clausePlace image i + 4 + 2 * length (clauseOf b i .body) ≡ clausePlace image (i + 1)
+  pub ways : breakWays b i + wayWidth * length (clauseOf b i .body) ≡ breakWays b (i + 1)
+  pub room : breakWays b (i + 1) ≤ trail
+  pub few : length (b .clauses) ≤ limits .clauses
 
-pub clause-at : (s : List ℕ) (b : Book) → decode s ≡ accepted b → (i : ℕ) → i < length (b .clauses) → ClauseAt s b i
+pub clause-at : (image : List ℕ) (b : Book) → decode image ≡ accepted b → (i : ℕ) → i < length (b .clauses) → ClauseAt image b i
 unfolding skip
-clause-at s b e i h =
-    let sh : Shown s b = shown s b e in
-    let fine : Within limits b = within s b e in
-    let c : Clause = getD (b .clauses) i noClause in
-    let at : ℕ = clausePlace s i in
-    let st : Stands s at (ofClause c) = sh .clause i h in
+clause-at image b e i h =
+    let sh : Shown image b = shown image b e in
+    let fine : Within limits b = within image b e in
+    let c : Clause = clauseOf b i in
+    let at : ℕ = clausePlace image i in
+    let st : Stands image at (ofClause c) = sh .clause i h in
     let many : length (ofLits (c .body)) ≡ length (c .body) = length-lits (c .body) in
-    let size : fieldAt s at ≡ 2 * suc (length (ofLits (c .body))) = stands-value st in
-    let whole : at + 2 * length (ofClause c) ≤ length s = stands-within (2 * length (c .head ∷ ofLits (c .body))) (c .head ∷ ofLits (c .body)) st in
+    let size : fieldAt image at ≡ 2 * suc (length (ofLits (c .body))) = stands-value st in
+    let whole : at + 2 * length (ofClause c) ≤ length image = stands-within (2 * length (c .head ∷ ofLits (c .body))) (c .head ∷ ofLits (c .body)) st in
     let four : at + 2 + 2 ≡ at + 4 = omega arith in
-    let body : Stands s (at + 4) (ofLits (c .body)) = stands-at four (stands-rest (stands-rest st)) in
+    let body : Stands image (at + 4) (ofLits (c .body)) = stands-at four (stands-rest (stands-rest st)) in
     let isFine = fine .clausesFine c (getD-∈ (b .clauses) i noClause h) in
     let up : i + 1 ≡ suc i = omega arith in
     let sums : sum bodyCount (take (i + 1) (b .clauses)) ≡ sum bodyCount (take i (b .clauses)) + length (c .body) =
@@ -112,191 +97,191 @@ clause-at s b e i h =
       size = omega arith;
       head = stands-value (stands-rest st);
       known = omega (arith, isFine .known, fine .atoms);
-      literals = lits-fit s (at + 4) (c .body) body (longest s b e) (omega arith) (λ l m. let n = isFine .named l m in omega (arith, n, fine .atoms));
-      body = lits-at s (at + 4) (c .body) body;
-      next = subst (λ (n : ℕ). at + 4 + 2 * length (c .body) ≡ clausePlace s n) (sym up) (omega arith);
+      literals = lits-fit image (at + 4) (c .body) body (longest-image image b e) (omega arith) (λ l m. let n = isFine .named l m in omega (arith, n, fine .atoms));
+      body = lits-at image (at + 4) (c .body) body;
+      next = subst (λ (n : ℕ). at + 4 + 2 * length (c .body) ≡ clausePlace image n) (sym up) (omega arith);
       ways = omega arith;
       room = omega (arith, fine .clauses, fine .bodies);
       few = fine .clauses;
     }
 
 -- What the tables have of clause i before the clauses are linked.
-pub record ClauseTable (s : List ℕ) (b : Book) (v : List ℕ) (i : ℕ) : Type 0 where
-  pub listed : Listed s (λ j. 0) (getD v (2440 + 2 * i) 0) (getD (b .clauses) i noClause .body)
-  pub head : getD v (2440 + 2 * i + 1) 0 ≡ getD (b .clauses) i noClause .head
-  pub broken : Row s (of v) (clauseWay b i) (clauseWay b (i + 1)) (getD v (768 + 2 * i) 0) (opposites (getD (b .clauses) i noClause .body))
+pub record ClauseTable (image : List ℕ) (b : Book) (after : List ℕ) (i : ℕ) : Type 0 where
+  pub listed : Listed image (λ j. 0) (getD after (clauseWay i) 0) (clauseOf b i .body)
+  pub head : getD after (clauseWay i + 1) 0 ≡ clauseOf b i .head
+  pub broken : Row image (of after) (breakWays b i) (breakWays b (i + 1)) (getD after (clauseRecord i) 0) (opposites (clauseOf b i .body))
 
 -- clause c is the next
-pub record ClauseDue (s w : List ℕ) (c at way : ℕ) : Type 0 where
-  pub book : decode s ≡ accepted (bookOf s)
-  pub less : c < length (bookOf s .clauses)
-  pub place : at ≡ clausePlace s c
-  pub ways : way ≡ clauseWay (bookOf s) c
-  pub long : 16384 ≤ length w
+pub record ClauseDue (image work : List ℕ) (c at way : ℕ) : Type 0 where
+  pub book : decode image ≡ accepted (bookIn image)
+  pub less : c < length (bookIn image .clauses)
+  pub place : at ≡ clausePlace image c
+  pub way-is : way ≡ breakWays (bookIn image) c
+  pub long : Long work
 
 -- and is laid
-pub record ClauseLaid (s w : List ℕ) (c : ℕ) (v : List ℕ) (at way : ℕ) : Type 0 where
-  pub place : at ≡ clausePlace s (c + 1)
-  pub ways : way ≡ clauseWay (bookOf s) (c + 1)
-  pub size : length v ≡ length w
-  pub table : ClauseTable s (bookOf s) v c
-  pub stays : (j : ℕ) → (j ≡ 768 + 2 * c → ⊥) → (2440 + 2 * c ≤ j → j < 2440 + 2 * c + 2 → ⊥) → (clauseWay (bookOf s) c ≤ j → j < clauseWay (bookOf s) (c + 1) → ⊥)
-      → getD v j 0 ≡ getD w j 0
+pub record ClauseLaid (image work : List ℕ) (c : ℕ) (after : List ℕ) (at way : ℕ) : Type 0 where
+  pub place : at ≡ clausePlace image (c + 1)
+  pub way-is : way ≡ breakWays (bookIn image) (c + 1)
+  pub size : length after ≡ length work
+  pub table : ClauseTable image (bookIn image) after c
+  pub stays : (j : ℕ) → (j ≡ clauseRecord c → ⊥) → (clauseWay c ≤ j → j < clauseWay c + wayWidth → ⊥) → (breakWays (bookIn image) c ≤ j → j < breakWays (bookIn image) (c + 1) → ⊥)
+      → getD after j 0 ≡ getD work j 0
 
-module _ (s w : List ℕ) (c at way : ℕ) (due : ClauseDue s w c at way) where
-  -- what stands at its place
-  pub record Record (n : ℕ) : Type 0 where
-    pub few : c < 512
-    pub there : at + 4 ≤ length s
-    pub short : length s ≤ 8751
-    pub literals : Literals s (at + 4) n
-    pub behind : 2440 + 2 * c + 2 ≤ way
-    pub room : way + 2 * n ≤ 7560
+module _ (image work : List ℕ) (c at way : ℕ) (due : ClauseDue image work c at way) where
+  -- it stands there, with n body literals, and there is place for its ways
+  pub record ClauseThere (n : ℕ) : Type 0 where
+    pub few : c < limits .clauses
+    pub there : at + 4 ≤ length image
+    pub short : Short image
+    pub literals : Literals image (at + 4) n
+    pub behind : clauseWay c + wayWidth ≤ way
+    pub room : way + wayWidth * n ≤ trail
 
-  count-is : (n : ℕ) → n ≡ fieldAt s at / 2 - 1 → n ≡ length (getD (bookOf s .clauses) c noClause .body)
+  count-is : (n : ℕ) → n ≡ fieldAt image at / 2 - 1 → n ≡ length (clauseOf (bookIn image) c .body)
   count-is n e =
-      let k = clause-at s (bookOf s) (due .book) c (due .less) in
-      let z : fieldAt s at ≡ 2 * suc (length (getD (bookOf s .clauses) c noClause .body)) = ap (fieldAt s) (due .place) ∙ k .size in
+      let k = clause-at image (bookIn image) (due .book) c (due .less) in
+      let z : fieldAt image at ≡ 2 * suc (length (clauseOf (bookIn image) c .body)) = ap (fieldAt image) (due .place) ∙ k .size in
       omega arith
 
-  pub clause-there : (at + 4 ≤ length s) × (length s ≤ 8751) × (2 ≤ fieldAt s at)
+  pub clause-there : (at + 4 ≤ length image) × Short image × (2 ≤ fieldAt image at)
   clause-there =
-      let k = clause-at s (bookOf s) (due .book) c (due .less) in
-      let z : fieldAt s at ≡ 2 * suc (length (getD (bookOf s .clauses) c noClause .body)) = ap (fieldAt s) (due .place) ∙ k .size in
+      let k = clause-at image (bookIn image) (due .book) c (due .less) in
+      let z : fieldAt image at ≡ 2 * suc (length (clauseOf (bookIn image) c .body)) = ap (fieldAt image) (due .place) ∙ k .size in
       (omega (arith, due .place, k .literals .there), k .literals .short, omega arith)
 
-  pub clause-record : (n : ℕ) → n ≡ fieldAt s at / 2 - 1 → Record n
+  pub clause-record : (n : ℕ) → n ≡ fieldAt image at / 2 - 1 → ClauseThere n
   clause-record n e =
-      let k = clause-at s (bookOf s) (due .book) c (due .less) in
+      let k = clause-at image (bookIn image) (due .book) c (due .less) in
       let is = count-is n e in
       let less = due .less in
       let few = k .few in
-      let first = due .ways in
+      let first = due .way-is in
       record {
         few = omega arith;
         there = clause-there .0;
         short = clause-there .1;
-        literals = subst₂ (λ (p m : ℕ). Literals s (p + 4) m) (sym (due .place)) (sym is) (k .literals);
+        literals = subst₂ (λ (p m : ℕ). Literals image (p + 4) m) (sym (due .place)) (sym is) (k .literals);
         behind = omega arith;
         room = omega (arith, k .ways, k .room);
       }
 
-  pub clause-laid : (n x h link : ℕ) (v : List ℕ) → n ≡ fieldAt s at / 2 - 1 → Listed s (λ j. 0) x (litsAt s (at + 4) n) → h ≡ fieldAt s (at + 2)
-      → OppositesLaid s (set (set w (2440 + 2 * c) x) (2440 + 2 * c + 1) h) way (at + 4) n 0 v link
-      → ClauseLaid s w c (set v (768 + 2 * c) link) (at + 4 + 2 * n) (way + 2 * n)
-  clause-laid n x h link v e l i o =
-      let b : Book = bookOf s in
-      let k = clause-at s b (due .book) c (due .less) in
+  pub clause-laid : (n x h link : ℕ) (after : List ℕ) → n ≡ fieldAt image at / 2 - 1 → Listed image (λ j. 0) x (litsAt image (at + 4) n) → h ≡ fieldAt image (at + 2)
+      → OppositesLaid image (set (set work (clauseWay c) x) (clauseWay c + 1) h) way (at + 4) n noLink after link
+      → ClauseLaid image work c (set after (clauseRecord c) link) (at + 4 + 2 * n) (way + wayWidth * n)
+  clause-laid n x h link after e l i o =
+      let b : Book = bookIn image in
+      let k = clause-at image b (due .book) c (due .less) in
       let r = clause-record n e in
-      let ls : List Lit = getD (b .clauses) c noClause .body in
+      let ls : List Lit = clauseOf b c .body in
       let is : n ≡ length ls = count-is n e in
-      let low : 2440 + 2 * c + 2 ≤ way = r .behind in
-      let first : way ≡ clauseWay b c = due .ways in
-      let last : way + 2 * n ≡ clauseWay b (c + 1) = omega (arith, k .ways) in
-      let old : List ℕ = set (set w (2440 + 2 * c) x) (2440 + 2 * c + 1) h in
-      let fits : 2440 + 2 * c + 2 ≤ length w = omega (arith, due .long, r .room) in
-      let size : length v ≡ length w = o .size ∙ pair-length w (2440 + 2 * c) x h in
-      let lits : litsAt s (at + 4) n ≡ ls = ap₂ (λ (p m : ℕ). litsAt s (p + 4) m) (due .place) is ∙ k .body in
-      let row : Row s (of v) way (way + 2 * n) link (opposites (litsAt s (at + 4) n)) =
-      subst (Row s (of v) way (way + 2 * n) link) (append-nil (opposites (litsAt s (at + 4) n))) (o .row (way + 2 * n) [] (omega arith) stop) in
-      let row′ : Row s (of (set v (768 + 2 * c) link)) (clauseWay b c) (clauseWay b (c + 1)) link (opposites ls) =
-      subst (λ (ks : List Lit). Row s (of (set v (768 + 2 * c) link)) (clauseWay b c) (clauseWay b (c + 1)) link (opposites ks)) lits
-      (row-same s (of v) (of (set v (768 + 2 * c) link)) way (way + 2 * n) (clauseWay b c) (clauseWay b (c + 1)) (omega arith) (omega arith)
-      (λ j p q. set-there v (768 + 2 * c) link j (λ z. omega (arith, z, r .few, low))) row) in
+      let low : clauseWay c + wayWidth ≤ way = r .behind in
+      let first : way ≡ breakWays b c = due .way-is in
+      let last : way + wayWidth * n ≡ breakWays b (c + 1) = omega (arith, k .ways) in
+      let old : List ℕ = set (set work (clauseWay c) x) (clauseWay c + 1) h in
+      let fits : clauseWay c + wayWidth ≤ length work = omega (arith, due .long, r .room) in
+      let size : length after ≡ length work = o .size ∙ pair-length work (clauseWay c) x h in
+      let lits : litsAt image (at + 4) n ≡ ls = ap₂ (λ (p m : ℕ). litsAt image (p + 4) m) (due .place) is ∙ k .body in
+      let row : Row image (of after) way (way + wayWidth * n) link (opposites (litsAt image (at + 4) n)) =
+      subst (Row image (of after) way (way + wayWidth * n) link) (append-nil (opposites (litsAt image (at + 4) n))) (o .row (way + wayWidth * n) [] (omega arith) stop) in
+      let row′ : Row image (of (set after (clauseRecord c) link)) (breakWays b c) (breakWays b (c + 1)) link (opposites ls) =
+      subst (λ (ks : List Lit). Row image (of (set after (clauseRecord c) link)) (breakWays b c) (breakWays b (c + 1)) link (opposites ks)) lits
+      (row-same image (of after) (of (set after (clauseRecord c) link)) way (way + wayWidth * n) (breakWays b c) (breakWays b (c + 1)) (omega arith) (omega arith)
+      (λ j p q. set-there after (clauseRecord c) link j (λ z. omega (arith, z, r .few, low))) row) in
       record {
         place = ap₂ (λ (p m : ℕ). p + 4 + 2 * m) (due .place) is ∙ k .next;
-        ways = last;
-        size = length-set v (768 + 2 * c) link ∙ size;
+        way-is = last;
+        size = length-set after (clauseRecord c) link ∙ size;
         table =
             record {
               listed =
-                  subst₂ (Listed s (λ j. 0))
-                  (sym (set-there v (768 + 2 * c) link (2440 + 2 * c) (λ z. omega (arith, z, r .few)) ∙ o .stays (2440 + 2 * c) (λ p q. omega arith) ∙ pair-first w (2440 + 2 * c) x h fits)) lits l;
+                  subst₂ (Listed image (λ j. 0))
+                  (sym (set-there after (clauseRecord c) link (clauseWay c) (λ z. omega (arith, z, r .few)) ∙ o .stays (clauseWay c) (λ p q. omega arith) ∙ pair-first work (clauseWay c) x h fits)) lits l;
               head =
-                  set-there v (768 + 2 * c) link (2440 + 2 * c + 1) (λ z. omega (arith, z, r .few)) ∙ o .stays (2440 + 2 * c + 1) (λ p q. omega arith)
-                  ∙ pair-second w (2440 + 2 * c) x h fits ∙ i ∙ ap (λ (p : ℕ). fieldAt s (p + 2)) (due .place) ∙ k .head;
+                  set-there after (clauseRecord c) link (clauseWay c + 1) (λ z. omega (arith, z, r .few)) ∙ o .stays (clauseWay c + 1) (λ p q. omega arith)
+                  ∙ pair-second work (clauseWay c) x h fits ∙ i ∙ ap (λ (p : ℕ). fieldAt image (p + 2)) (due .place) ∙ k .head;
               broken =
-                  subst (λ (m : ℕ). Row s (of (set v (768 + 2 * c) link)) (clauseWay b c) (clauseWay b (c + 1)) m (opposites ls))
-                  (sym (set-here v (768 + 2 * c) link (omega (arith, size, due .long, r .few)))) row′;
+                  subst (λ (m : ℕ). Row image (of (set after (clauseRecord c) link)) (breakWays b c) (breakWays b (c + 1)) m (opposites ls))
+                  (sym (set-here after (clauseRecord c) link (omega (arith, size, due .long, r .few)))) row′;
             };
         stays =
             λ j p q u.
-            set-there v (768 + 2 * c) link j p ∙ o .stays j (λ y z. u (omega arith) (omega arith)) ∙ pair-stays w (2440 + 2 * c) x h j q;
+            set-there after (clauseRecord c) link j p ∙ o .stays j (λ y z. u (omega arith) (omega arith)) ∙ pair-stays work (clauseWay c) x h j q;
       }
 
 -- ---- all clauses
 
-pub record ClausesDue (s w : List ℕ) (start count : ℕ) : Type 0 where
-  pub book : decode s ≡ accepted (bookOf s)
-  pub place : start ≡ clausePlace s 0
-  pub counted : count ≡ length (bookOf s .clauses)
-  pub long : 16384 ≤ length w
+pub record ClausesDue (image work : List ℕ) (start count : ℕ) : Type 0 where
+  pub book : decode image ≡ accepted (bookIn image)
+  pub place : start ≡ clausePlace image 0
+  pub counted : count ≡ length (bookIn image .clauses)
+  pub long : Long work
 
 -- the first c of them are laid
-pub record ClausesLaid (s w : List ℕ) (v : List ℕ) (c at way : ℕ) : Type 0 where
-  pub place : at ≡ clausePlace s c
-  pub ways : way ≡ clauseWay (bookOf s) c
-  pub most : c ≤ length (bookOf s .clauses)
-  pub size : length v ≡ length w
-  pub tables : (i : ℕ) → i < c → ClauseTable s (bookOf s) v i
-  pub stays : (j : ℕ) → (768 ≤ j → j < 1792 → ⊥) → (2440 ≤ j → j < 7560 → ⊥) → getD v j 0 ≡ getD w j 0
+pub record ClausesLaid (image work : List ℕ) (after : List ℕ) (c at way : ℕ) : Type 0 where
+  pub place : at ≡ clausePlace image c
+  pub way-is : way ≡ breakWays (bookIn image) c
+  pub most : c ≤ length (bookIn image .clauses)
+  pub size : length after ≡ length work
+  pub tables : (i : ℕ) → i < c → ClauseTable image (bookIn image) after i
+  pub stays : (j : ℕ) → (clauseRecords ≤ j → j < constraintRecords → ⊥) → (ways ≤ j → j < trail → ⊥) → getD after j 0 ≡ getD work j 0
 
-table-same : (s : List ℕ) (b : Book) (w v : List ℕ) (i : ℕ) → ClauseTable s b w i → getD v (2440 + 2 * i) 0 ≡ getD w (2440 + 2 * i) 0 → getD v (2440 + 2 * i + 1) 0 ≡ getD w (2440 + 2 * i + 1) 0
-    → getD v (768 + 2 * i) 0 ≡ getD w (768 + 2 * i) 0 → ((j : ℕ) → clauseWay b i ≤ j → j < clauseWay b (i + 1) → getD v j 0 ≡ getD w j 0) → ClauseTable s b v i
-table-same s b w v i t p q r f = record {
-  listed = subst (λ (n : ℕ). Listed s (λ j. 0) n (getD (b .clauses) i noClause .body)) (sym p) (t .listed);
+table-same : (image : List ℕ) (b : Book) (work after : List ℕ) (i : ℕ) → ClauseTable image b work i → getD after (clauseWay i) 0 ≡ getD work (clauseWay i) 0 → getD after (clauseWay i + 1) 0 ≡ getD work (clauseWay i + 1) 0
+    → getD after (clauseRecord i) 0 ≡ getD work (clauseRecord i) 0 → ((j : ℕ) → breakWays b i ≤ j → j < breakWays b (i + 1) → getD after j 0 ≡ getD work j 0) → ClauseTable image b after i
+table-same image b work after i t p q r f = record {
+  listed = subst (λ (n : ℕ). Listed image (λ j. 0) n (clauseOf b i .body)) (sym p) (t .listed);
   head = q ∙ t .head;
   broken =
-      subst (λ (n : ℕ). Row s (of v) (clauseWay b i) (clauseWay b (i + 1)) n (opposites (getD (b .clauses) i noClause .body))) (sym r)
-      (row-same s (of w) (of v) (clauseWay b i) (clauseWay b (i + 1)) (clauseWay b i) (clauseWay b (i + 1)) (omega arith) (omega arith) f (t .broken));
+      subst (λ (n : ℕ). Row image (of after) (breakWays b i) (breakWays b (i + 1)) n (opposites (clauseOf b i .body))) (sym r)
+      (row-same image (of work) (of after) (breakWays b i) (breakWays b (i + 1)) (breakWays b i) (breakWays b (i + 1)) (omega arith) (omega arith) f (t .broken));
 }
 
-module _ (s w : List ℕ) (start count : ℕ) (due : ClausesDue s w start count) where
-  pub clauses-start : ClausesLaid s w w 0 start (2440 + 2 * count)
+module _ (image work : List ℕ) (start count : ℕ) (due : ClausesDue image work start count) where
+  pub clauses-start : ClausesLaid image work work 0 start (clauseWay count)
   clauses-start = record {
     place = due .place;
-    ways = omega (arith, due .counted, sum-none bodyCount (bookOf s .clauses));
+    way-is = omega (arith, due .counted, sum-none bodyCount (bookIn image .clauses));
     most = omega arith;
     size = refl;
     tables = λ i h. absurd (omega arith);
     stays = λ j p q. refl;
   }
 
-  pub clauses-due : (v : List ℕ) (c at way : ℕ) → c < count → ClausesLaid s w v c at way → ClauseDue s v c at way
-  clauses-due v c at way h l = record {
+  pub clauses-due : (after : List ℕ) (c at way : ℕ) → c < count → ClausesLaid image work after c at way → ClauseDue image after c at way
+  clauses-due after c at way h l = record {
     book = due .book;
     less = omega (arith, due .counted);
     place = l .place;
-    ways = l .ways;
+    way-is = l .way-is;
     long = omega (arith, l .size, due .long);
   }
 
-  pub clauses-step : (v : List ℕ) (c at way : ℕ) → c < count → ClausesLaid s w v c at way → (v′ : List ℕ) (at′ way′ : ℕ) → ClauseLaid s v c v′ at′ way′ → ClausesLaid s w v′ (c + 1) at′ way′
-  clauses-step v c at way h l v′ at′ way′ n =
-      let b : Book = bookOf s in
+  pub clauses-step : (after : List ℕ) (c at way : ℕ) → c < count → ClausesLaid image work after c at way → (after′ : List ℕ) (at′ way′ : ℕ) → ClauseLaid image after c after′ at′ way′ → ClausesLaid image work after′ (c + 1) at′ way′
+  clauses-step after c at way h l after′ at′ way′ n =
+      let b : Book = bookIn image in
       let less : c < length (b .clauses) = omega (arith, due .counted) in
-      let k = clause-at s b (due .book) c less in
-      let few : length (b .clauses) ≤ 512 = k .few in
-      let room : clauseWay b (c + 1) ≤ 7560 = k .room in
+      let k = clause-at image b (due .book) c less in
+      let few : length (b .clauses) ≤ limits .clauses = k .few in
+      let room : breakWays b (c + 1) ≤ trail = k .room in
       record {
         place = n .place;
-        ways = n .ways;
+        way-is = n .way-is;
         most = omega arith;
         size = n .size ∙ l .size;
         tables = λ i q. go i q (eqb i c) refl;
         stays = λ j p q. n .stays j (λ z. p (omega arith) (omega arith)) (λ y z. q (omega arith) (omega arith)) (λ y z. q (omega arith) (omega arith)) ∙ l .stays j p q;
       }
     where
-      go : (i : ℕ) → i < c + 1 → (t : Bool) → eqb i c ≡ t → ClauseTable s (bookOf s) v′ i
-      go i q true e = subst (ClauseTable s (bookOf s) v′) (sym (eqb-true i c e)) (n .table)
+      go : (i : ℕ) → i < c + 1 → (t : Bool) → eqb i c ≡ t → ClauseTable image (bookIn image) after′ i
+      go i q true e = subst (ClauseTable image (bookIn image) after′) (sym (eqb-true i c e)) (n .table)
       go i q false e =
           let d : i ≡ c → ⊥ = eqb-false i c e in
           let less : i < c = omega (arith, d) in
-          let most : c ≤ length (bookOf s .clauses) = l .most in
-          let few : length (bookOf s .clauses) ≤ 512 = within s (bookOf s) (due .book) .clauses in
-          let rises : sum bodyCount (take (i + 1) (bookOf s .clauses)) ≤ sum bodyCount (take c (bookOf s .clauses)) = sum-rises bodyCount (bookOf s .clauses) (i + 1) c (omega arith) in
-          table-same s (bookOf s) v v′ i (l .tables i less)
-          (n .stays (2440 + 2 * i) (λ z. omega (arith, z)) (λ y z. omega arith) (λ y z. omega arith))
-          (n .stays (2440 + 2 * i + 1) (λ z. omega (arith, z)) (λ y z. omega arith) (λ y z. omega arith))
-          (n .stays (768 + 2 * i) (λ z. omega (arith, z)) (λ y z. omega arith) (λ y z. omega arith))
+          let most : c ≤ length (bookIn image .clauses) = l .most in
+          let few : length (bookIn image .clauses) ≤ limits .clauses = within image (bookIn image) (due .book) .clauses in
+          let rises : sum bodyCount (take (i + 1) (bookIn image .clauses)) ≤ sum bodyCount (take c (bookIn image .clauses)) = sum-rises bodyCount (bookIn image .clauses) (i + 1) c (omega arith) in
+          table-same image (bookIn image) after after′ i (l .tables i less)
+          (n .stays (clauseWay i) (λ z. omega (arith, z)) (λ y z. omega arith) (λ y z. omega arith))
+          (n .stays (clauseWay i + 1) (λ z. omega (arith, z)) (λ y z. omega arith) (λ y z. omega arith))
+          (n .stays (clauseRecord i) (λ z. omega (arith, z)) (λ y z. omega arith) (λ y z. omega arith))
           (λ j x y. n .stays j (λ z. omega arith) (λ z o. omega arith) (λ z o. omega arith))

@@ -1,7 +1,4 @@
--- The book as tables in the work area, and what their filling leaves.
-pub mod Ground
-pub mod Lay
-pub mod Links
+-- What the filling of the tables leaves.
 pub mod Clauses
-pub mod Rules
+pub mod Constraints
 pub mod Filling

@@ -1,11 +1,12 @@
 -- `book::read` meets its promise. Assumes nothing.
 use mathlib.Core.Path.{subst, sym, ap, _∙_}
 use mathlib.Core.Bool.{Bool}
-use Rattle.base.specs.Bools.{choose}
-use Rattle.book.specs.Reading.{Reads, refused-front, refused-walk, settled}
+use Rattle.base.specs.paper.Bools.{choose}
+use Rattle.book.specs.paper.Reading.{Reads}
+use Rattle.book.specs.ReadingLaws.{refused-front, refused-walk, settled}
 use Rattle.book.specs.declared.Reading.the-variants.{Accepted, Refused}
-use Rattle.book.specs.Taking.{taken, finding}
-use Rattle.book.specs.Pouring.{seen-found, seen-fault}
+use Rattle.faults.specs.Taking.{taken, finding}
+use Rattle.walk.specs.Pouring.{seen-found, seen-fault}
 use borrow.Author.Needs.{needs}
 use Rattle.book.proofs.read.Statement.{statement}
 use Rattle.book.proofs.read.Tie as tie

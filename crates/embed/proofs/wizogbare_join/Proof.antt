@@ -1,6 +1,6 @@
 -- `embed::wizogbare_join` meets its contract. Assumes nothing.
 use mathlib.Core.Path.{sym, ap}
-use Rattle.embed.specs.Codes.{joinedCode}
+use Rattle.embed.specs.paper.Codes.{joinedCode}
 use borrow.Author.Needs.{needs}
 use Rattle.embed.proofs.wizogbare_join.Statement.{statement}
 use Rattle.embed.proofs.wizogbare_join.Tie as tie

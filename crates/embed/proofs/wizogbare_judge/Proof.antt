@@ -1,6 +1,6 @@
 -- `embed::wizogbare_judge` meets its contract. Assumes nothing.
 use mathlib.Core.Path.{sym, ap}
-use Rattle.embed.specs.Codes.{judgementCode}
+use Rattle.embed.specs.paper.Codes.{judgementCode}
 use borrow.Author.Needs.{needs}
 use Rattle.embed.proofs.wizogbare_judge.Statement.{statement}
 use Rattle.embed.proofs.wizogbare_judge.Tie as tie

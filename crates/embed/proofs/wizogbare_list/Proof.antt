@@ -1,6 +1,6 @@
 -- `embed::wizogbare_list` meets its contract. Assumes nothing.
 use mathlib.Core.Path.{sym, ap}
-use Rattle.embed.specs.Codes.{listingCode}
+use Rattle.embed.specs.paper.Codes.{listingCode}
 use borrow.Author.Needs.{needs}
 use Rattle.embed.proofs.wizogbare_list.Statement.{statement}
 use Rattle.embed.proofs.wizogbare_list.Tie as tie

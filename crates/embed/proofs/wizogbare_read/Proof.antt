@@ -1,6 +1,6 @@
 -- `embed::wizogbare_read` meets its contract. Assumes nothing.
 use mathlib.Core.Path.{sym, ap}
-use Rattle.embed.specs.Codes.{readingCode}
+use Rattle.embed.specs.paper.Codes.{readingCode}
 use borrow.Author.Needs.{needs}
 use Rattle.embed.proofs.wizogbare_read.Statement.{statement}
 use Rattle.embed.proofs.wizogbare_read.Tie as tie

@@ -1,6 +1,6 @@
 -- `embed::wizogbare_verdict` meets its contract. Assumes nothing.
 use mathlib.Core.Path.{sym, ap}
-use Rattle.embed.specs.Codes.{verdictCode}
+use Rattle.embed.specs.paper.Codes.{verdictCode}
 use borrow.Author.Needs.{needs}
 use Rattle.embed.proofs.wizogbare_verdict.Statement.{statement}
 use Rattle.embed.proofs.wizogbare_verdict.Tie as tie

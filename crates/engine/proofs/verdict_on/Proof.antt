@@ -4,9 +4,10 @@ use Prim.Native.Nat.{_<_}
 use mathlib.Core.Path.{sym, subst}
 use native.Mathlib.Omega.{arith}
 use lib.ListN.{length}
-use Rattle.book.specs.Shown.{shown}
+use Rattle.image.specs.Shown.{shown, shown-front}
+use Rattle.image.specs.Accepted.{bookIn}
 use Rattle.lister.specs.PromiseLaws.{Admitted, may-search}
-use Rattle.engine.specs.Verdict.{Verdicts}
+use Rattle.engine.specs.paper.Verdict.{Verdicts}
 use Rattle.engine.specs.VerdictLaws.{verdict-early, verdict-unnamed, by-listing, hypothesis-small, lists-count, verdict-refused, verdict-listed}
 use Rattle.engine.specs.declared.Verdict.{Verdict}
 use borrow.Author.Needs.{needs}
@@ -18,26 +19,20 @@ admitted : (m : tie.After-enum-told) → let a = m .before .before .before .befo
     Admitted (a .image .now) (a .budget) (length (a .sets .now)) (length (a .work .now))
 admitted m = may-search _ _ _ _ _ (m .before .before .before-search .ensures) (m .enum-told .given .1)
 
-field-at-requires : tie.Need-field-at-requires
-field-at-requires c κs =
-    let i = admitted c .book in
-    let sh = shown _ (i .b) (i .book) in
-    let f = sh .front in
-    let g = sh .fits in
-    omega arith
+abducibles-requires : tie.Need-abducibles-requires
+abducibles-requires c κs = shown-front (shown _ _ (admitted c .book))
 
 returns : tie.Need-returns
 returns c =
-    let i = admitted (c .before .before) .book in
-    let a = shown _ (i .b) (i .book) .abducibles in
-    verdict-unnamed _ _ _ _ _ (admitted (c .before .before)) (omega (arith, c .before .field-at .ensures .0))
+    let a = shown _ _ (admitted (c .before .before) .book) .abducibles in
+    verdict-unnamed _ _ _ _ _ (admitted (c .before .before)) (omega (arith, c .before .abducibles .ensures .0))
 
 -- and the hypothesis is an abducible
-known : (m : tie.After-list-book-arg) → m .before .before .before .before .before .before .before .before .before .args .hypothesis < admitted (m .before .before .before) .book .b .abducibles
+known : (m : tie.After-list-book-arg)
+    → let a = m .before .before .before .before .before .before .before .before .before .args in a .hypothesis < bookIn (a .image .now) .abducibles
 known m =
-    let i = admitted (m .before .before .before) .book in
-    let a = shown _ (i .b) (i .book) .abducibles in
-    omega (arith, m .before .before .field-at .ensures .0, m .before .if1 .left)
+    let a = shown _ _ (admitted (m .before .before .before) .book) .abducibles in
+    omega (arith, m .before .before .abducibles .ensures .0, m .before .if1 .left)
 
 list-book-requires : tie.Need-list-book-requires
 list-book-requires c κs = admitted (c .before .before .before .before)
@@ -75,7 +70,7 @@ verdict-on-spec =
     (λ c κs. search needs)
     (λ c. search needs)
     (λ c. search needs)
-    field-at-requires
+    abducibles-requires
     returns
     list-book-requires
     (λ c. search needs)

@@ -1,17 +1,18 @@
 -- `judging::judge` meets its contract. Assumes nothing.
-use Rattle.judging.proofs.Answer.{read-accepts, read-refuses, accepted-judged}
+use Rattle.book.specs.ReadingLaws.{read-book, read-refused}
+use Rattle.judging.proofs.Answer.{refused-judged, accepted-judged}
 use borrow.Author.Needs.{needs}
 use Rattle.judging.proofs.judge.Statement.{statement}
 use Rattle.judging.proofs.judge.Tie as tie
 
 judge-accepted-requires : tie.Need-judge-accepted-requires
-judge-accepted-requires c κs = read-accepts _ _ (c .before .before .read .ensures) (c .enum-told .given .1)
+judge-accepted-requires c κs = read-book _ _ (c .before .before .read .ensures) (c .enum-told .given .1)
 
 returns : tie.Need-returns
-returns c = read-refuses _ _ (c .before .before .before .read .ensures) _ _ (c .before .n .given .1)
+returns c = refused-judged _ _ _ (read-refused _ _ _ (c .before .before .before .read .ensures) (c .before .n .given .1))
 
 returns-2 : tie.Need-returns-2
-returns-2 c = accepted-judged _ _ _ (read-accepts _ _ (c .before .before .before .read .ensures) (c .before .enum-told .given .1)) (c .judge-accepted .ensures)
+returns-2 c = accepted-judged _ _ _ (read-book _ _ (c .before .before .before .read .ensures) (c .before .enum-told .given .1)) (c .judge-accepted .ensures)
 
 pub judge-spec : {M : Type 1} → statement M
 judge-spec =

@@ -1,6 +1,6 @@
 -- `lister::before_search` meets its contract: each test says which refusal it is. Assumes nothing.
-use Rattle.tables.specs.Clauses.{IsBook}
-use Rattle.lister.specs.Whole.{read-book, read-refused}
+use Rattle.image.specs.Accepted.{IsBook}
+use Rattle.book.specs.ReadingLaws.{read-book, read-refused}
 use Rattle.lister.specs.PromiseLaws.{early-refused, early-long, early-short, early-budget}
 use borrow.Author.Needs.{needs}
 use Rattle.lister.proofs.before_search.Statement.{statement}

@@ -2,23 +2,21 @@
 use Prim.Native.Nat.{_≤_, _-_}
 use native.Mathlib.Omega.{arith}
 use borrow.Author.Needs.{needs}
+use Rattle.image.specs.paper.Faults.{limits}
 use Rattle.listing.proofs.members.Statement.{statement}
 use Rattle.listing.proofs.members.Tie as tie
 
 abbrev Inv-loop : tie.InvT-loop
-Inv-loop set j₀ j = j ≤ 64
+Inv-loop set j₀ j = j ≤ limits .abducibles
 
 abbrev μ-loop : tie.MeasureT-loop
-μ-loop set j₀ j = 64 - j
+μ-loop set j₀ j = limits .abducibles - j
 
 loop-holds : tie.Need-loop-holds Inv-loop μ-loop
 loop-holds c = search needs
 
-cast-if1 : tie.Need-cast-if1 Inv-loop μ-loop
-cast-if1 c = omega arith
-
-shr-if1 : tie.Need-shr-if1 Inv-loop μ-loop
-shr-if1 c = omega arith
+is-in-requires : tie.Need-is-in-requires Inv-loop μ-loop
+is-in-requires c κs = omega arith
 
 member-requires : tie.Need-member-requires Inv-loop μ-loop
 member-requires c κs = search needs
@@ -42,8 +40,7 @@ members-spec =
     Inv-loop
     μ-loop
     loop-holds
-    cast-if1
-    shr-if1
+    is-in-requires
     member-requires
     add-j
     loop-less

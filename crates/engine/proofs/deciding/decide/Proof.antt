@@ -5,7 +5,7 @@ use mathlib.Core.Path.{_≡_, sym, ap, _∙_}
 use lib.ListN.{length, take}
 use lib.Seq.{length-take-le}
 use Rattle.base.specs.Bools.{choose-true, choose-false}
-use Rattle.engine.specs.Verdict.{decided}
+use Rattle.engine.specs.paper.Verdict.{decided}
 use Rattle.engine.specs.VerdictLaws.{decided-by}
 use borrow.Author.Needs.{needs}
 use Rattle.engine.proofs.deciding.decide.Statement.{statement}

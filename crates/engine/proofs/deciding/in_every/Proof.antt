@@ -6,8 +6,8 @@ use native.Mathlib.Omega.{arith}
 use borrow.Author.Tests.{not-true, not-false}
 use lib.ListN.{take}
 use lib.Seq.{slice}
-use Rattle.base.specs.Lists.{all}
-use Rattle.base.specs.Members.{has}
+use Rattle.base.specs.paper.Lists.{all}
+use Rattle.base.specs.paper.Members.{has}
 use Rattle.base.specs.Scans.{all-none, all-met, all-unmet}
 use Rattle.engine.proofs.deciding.in_every.Statement.{statement}
 use Rattle.engine.proofs.deciding.in_every.Tie as tie

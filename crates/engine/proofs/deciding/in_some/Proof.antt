@@ -5,8 +5,8 @@ use mathlib.Core.Path.{_≡_, refl, sym, _∙_}
 use native.Mathlib.Omega.{arith}
 use lib.ListN.{take}
 use lib.Seq.{slice}
-use Rattle.base.specs.Lists.{any}
-use Rattle.base.specs.Members.{has}
+use Rattle.base.specs.paper.Lists.{any}
+use Rattle.base.specs.paper.Members.{has}
 use Rattle.base.specs.Scans.{any-none, any-met, any-unmet}
 use Rattle.engine.proofs.deciding.in_some.Statement.{statement}
 use Rattle.engine.proofs.deciding.in_some.Tie as tie

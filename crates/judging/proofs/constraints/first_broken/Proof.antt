@@ -2,10 +2,10 @@
 use Prim.Native.Nat.{_+_, _-_, _≤_}
 use native.Mathlib.Omega.{arith}
 use lib.ListN.{length}
-use Rattle.book.specs.Walk.{fieldAt}
+use Rattle.image.specs.paper.Walk.{fieldAt}
 use borrow.Author.Tests.{not-true, not-false}
-use Rattle.judging.proofs.Image.{shows}
-use Rattle.judging.proofs.Rule.{Held, held-start, held-over, held-here, held-within, held-false, held-true}
+use Rattle.image.specs.Places.{shows}
+use Rattle.judging.proofs.Constraint.{Held, held-start, held-over, held-here, held-within, held-false, held-true}
 use Rattle.judging.proofs.constraints.first_broken.Statement.{statement}
 use Rattle.judging.proofs.constraints.first_broken.Tie as tie
 

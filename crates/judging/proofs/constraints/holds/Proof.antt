@@ -2,10 +2,10 @@
 use mathlib.Core.Path.{sym, subst, _∙_}
 use mathlib.Core.List.{List}
 use native.Mathlib.Omega.{arith}
-use Rattle.book.specs.Book.{Lit}
-use Rattle.book.specs.Sound.{Known}
-use Rattle.judging.specs.Notes.{bookIn}
-use Rattle.judging.proofs.Rule.{Rule, rule, counted-part, rule-false, rule-true, rule-ways}
+use Rattle.image.specs.paper.Book.{Lit}
+use Rattle.image.specs.Sound.{Known}
+use Rattle.image.specs.Accepted.{bookIn}
+use Rattle.judging.proofs.Constraint.{Standing, standing, counted-part, standing-false, standing-true, standing-ways}
 use borrow.Author.Needs.{needs}
 use Rattle.judging.proofs.constraints.holds.Statement.{statement}
 use Rattle.judging.proofs.constraints.holds.Tie as tie
@@ -18,8 +18,8 @@ abbrev entry : tie.After-field-at2 → tie.Start
 entry c = c .before .before .before
 
 -- the constraint that stands at the place
-here : (c : tie.Start) → Rule (c .args .image .now) (c .args .place) (c .pre .1 .1 .0)
-here c = rule _ (c .pre .0) _ _ (c .pre .1 .1 .1) (c .pre .1 .1 .2)
+here : (c : tie.Start) → Standing (c .args .image .now) (c .args .place) (c .pre .1 .1 .0)
+here c = standing _ (c .pre .0) _ _ (c .pre .1 .1 .1) (c .pre .1 .1 .2)
 
 add-start : tie.Need-add-start
 add-start c = omega (arith, here (c .before) .within, c .before .good .0 .0)
@@ -31,16 +31,16 @@ add-end : tie.Need-add-end
 add-end c = let e = c .before .before in omega (arith, here e .within, c .field-at .ensures .0, e .good .0 .0)
 
 field-at-requires-2 : tie.Need-field-at-requires-2
-field-at-requires-2 c κs = let e = c .before .before in omega (arith, here e .turn, here e .within)
+field-at-requires-2 c κs = let e = c .before .before in omega (arith, here e .middle, here e .within)
 
-add-turn : tie.Need-add-turn
-add-turn c = let e = c .before .before .before in omega (arith, here e .turn, here e .within, e .good .0 .0)
+add-ways : tie.Need-add-ways
+add-ways c = let e = c .before .before .before in omega (arith, here e .middle, here e .within, e .good .0 .0)
 
-add-turn-2 : tie.Need-add-turn-2
-add-turn-2 c = let e = c .before .before .before in omega (arith, here e .turn, here e .within, c .field-at2 .ensures .0, e .good .0 .0)
+add-ways-2 : tie.Need-add-ways-2
+add-ways-2 c = let e = c .before .before .before in omega (arith, here e .middle, here e .within, c .field-at2 .ensures .0, e .good .0 .0)
 
 part-first-false-end : tie.Need-part-first-false-end
-part-first-false-end c = let e = c .before .before .before .before in omega (arith, here e .turn, here e .within, c .before .field-at2 .ensures .0)
+part-first-false-end c = let e = c .before .before .before .before in omega (arith, here e .middle, here e .within, c .before .field-at2 .ensures .0)
 
 first-false-requires : tie.Need-first-false-requires
 first-false-requires c κs =
@@ -56,22 +56,22 @@ returns : tie.Need-returns
 returns c =
     let n = counted (c .before) in
     let first = c .before .first-false .ensures in
-    (λ k m h. sym (rule-false _ _ _ k (rule _ (entry n .pre .0) _ k m h) _ _ (n .field-at2 .ensures .0) (first .0) (c .if1 .taken)), first .1)
+    (λ k m h. sym (standing-false _ _ _ k (standing _ (entry n .pre .0) _ k m h) _ _ (n .field-at2 .ensures .0) (first .0) (c .if1 .taken)), first .1)
 
 some-way-requires : tie.Need-some-way-requires
 some-way-requires c κs =
     let first = c .before .before in
     let n = counted first in
-    (entry n .pre .0, (first .first-false .ensures .1, (_, rule-ways _ _ _ (here (entry n)) _ _ (n .field-at2 .ensures .0) (n .before .field-at .ensures .0))))
+    (entry n .pre .0, (first .first-false .ensures .1, (_, standing-ways _ _ _ (here (entry n)) _ _ (n .field-at2 .ensures .0) (n .before .field-at .ensures .0))))
 
 returns-2 : tie.Need-returns-2
 returns-2 c =
     let first = c .before .before .before in
     let n = counted first in (
       λ k m h.
-          let r = rule _ (entry n .pre .0) _ k m h in
-          c .some-way .ensures .0 _ (rule-ways _ _ k r _ _ (n .field-at2 .ensures .0) (n .before .field-at .ensures .0))
-          ∙ sym (rule-true _ _ _ k r _ _ (n .field-at2 .ensures .0) (first .first-false .ensures .0) (c .before .before .if1 .left)),
+          let r = standing _ (entry n .pre .0) _ k m h in
+          c .some-way .ensures .0 _ (standing-ways _ _ k r _ _ (n .field-at2 .ensures .0) (n .before .field-at .ensures .0))
+          ∙ sym (standing-true _ _ _ k r _ _ (n .field-at2 .ensures .0) (first .first-false .ensures .0) (c .before .before .if1 .left)),
       c .some-way .ensures .1,
     )
 
@@ -85,9 +85,9 @@ holds-spec =
     add-end
     field-at-requires-2
     (λ c. search needs)
-    add-turn
+    add-ways
     (λ c. search needs)
-    add-turn-2
+    add-ways-2
     (λ c. search needs)
     (λ c. search needs)
     part-first-false-end

@@ -3,10 +3,10 @@ use mathlib.Core.Path.{sym, subst}
 use mathlib.Core.List.{List}
 use Prim.Native.Nat.{_-_}
 use native.Mathlib.Omega.{arith}
-use Rattle.book.specs.Book.{Lit}
-use Rattle.book.specs.Sound.{Known}
-use Rattle.judging.specs.Notes.{bookIn}
-use Rattle.judging.proofs.Rule.{First, Tried, counted-part, tried-start, tried-over, tried-first, tried-true, tried-false}
+use Rattle.image.specs.paper.Book.{Lit}
+use Rattle.image.specs.Sound.{Known}
+use Rattle.image.specs.Accepted.{bookIn}
+use Rattle.judging.proofs.Constraint.{First, Tried, counted-part, tried-start, tried-over, tried-first, tried-true, tried-false}
 use Rattle.judging.proofs.constraints.some_way.Statement.{statement}
 use Rattle.judging.proofs.constraints.some_way.Tie as tie
 

@@ -12,17 +12,21 @@ use borrow.Author.Tests.{not-true, not-false}
 use borrow.Fn.Kinds.{In}
 use borrow.Fn.PlainCycle.{Measures, is, falls, and}
 use lib.ListN.{length}
-use Rattle.book.specs.Book.{Lit, Book}
-use Rattle.book.specs.Walk.{fieldAt}
-use Rattle.judging.specs.Meaning as meaning
-use Rattle.judging.specs.Meaning.{true-in}
-use Rattle.judging.specs.Notes.{bookIn, Accepts, Noted}
-use Rattle.judging.proofs.Image.{shows, clauses-fit, few-atoms, few-abducibles, Here, met-truth, part-met, part-end}
+use Rattle.image.specs.paper.Book.{Lit, Book}
+use Rattle.image.specs.paper.Walk.{fieldAt}
+use Rattle.meaning.specs.paper.Meaning as meaning
+use Rattle.meaning.specs.paper.Meaning.{true-in}
+use Rattle.judging.specs.Notes.{Noted}
+use Rattle.image.specs.Accepted.{bookIn, IsBook}
+use Rattle.image.specs.Shown.{shown-front}
+use Rattle.image.specs.Places.{shows, clauses-fit}
+use Rattle.judging.proofs.Image.{few-atoms, few-abducibles, Here, met-truth, part-met, part-end}
 use Rattle.judging.proofs.Memo.{noted-known, noted-more}
 use Rattle.judging.proofs.Scan.{rankIn, value-set, Scan, Read, scan-start, scan-over, scan-clause, scan-behind, scan-other, scan-enter, read-over, read-under, read-false, read-true}
-use Rattle.book.proofs.fields.field_at.Reads as field-at-reads
-use Rattle.judging.proofs.places.clauses.Reads as clauses-reads
-use Rattle.judging.proofs.values.is_in.Reads as is-in-reads
+use Rattle.image.proofs.fields.field_at.Reads as field-at-reads
+use Rattle.image.proofs.front.abducibles.Reads as abducibles-reads
+use Rattle.image.proofs.front.clauses.Reads as clauses-reads
+use Rattle.sets.proofs.members.is_in.Reads as is-in-reads
 use Rattle.judging.proofs.values.is_true.Reads as is-true-reads
 use Rattle.judging.proofs.values.note.Reads as note-reads
 use Rattle.judging.proofs.values.walk.Reads as walk-reads
@@ -45,14 +49,16 @@ value-below t = and 2 value-kinds.ps (falls 2 value-kinds.ps _<_ μ-value t) val
 -- what is asked and learnt at each call
 abbrev claims : ℕ → lts.Claims
 claims t = (
-  field-at-reads.Asked,
-  field-at-reads.Learnt,
+  abducibles-reads.Asked,
+  abducibles-reads.Learnt,
   is-in-reads.Asked,
   is-in-reads.Learnt,
   note-reads.Asked,
   note-reads.Learnt,
   clauses-reads.Asked,
   clauses-reads.Learnt,
+  field-at-reads.Asked,
+  field-at-reads.Learnt,
   walk-reads.Asked,
   walk-reads.Learnt,
   value-below t,
@@ -81,11 +87,11 @@ module _ (t : ℕ) where
 
   -- with the number of abducibles
   abbrev Limited : Type 0
-  Limited = lts.After-field-at (claims t) (value-at t) value.Post Inv-loop μ-loop Inv-clauses μ-clauses
+  Limited = lts.After-abducibles (claims t) (value-at t) value.Post Inv-loop μ-loop Inv-clauses μ-clauses
 
   -- at a clause, with its record length
   abbrev Sized : Type 0
-  Sized = lts.After-field-at3 (claims t) (value-at t) value.Post Inv-loop μ-loop Inv-clauses μ-clauses
+  Sized = lts.After-field-at2 (claims t) (value-at t) value.Post Inv-loop μ-loop Inv-clauses μ-clauses
 
   -- where the walk over its body has met something
   abbrev Walked : Type 0
@@ -130,7 +136,7 @@ module _ (t : ℕ) where
   abbrev values : Entry → ℕ → Bool
   values e = meaning.value (book e) (assumed e)
 
-  accepts : (e : Entry) → Accepts (image e)
+  accepts : (e : Entry) → IsBook (image e)
   accepts e = e .pre .1 .0
 
   small : (e : Entry) → atom e < 256
@@ -142,10 +148,10 @@ module _ (t : ℕ) where
   place c = c .before .before .clauses .place
 
   abbrev end : Sized → ℕ
-  end c = place c + 2 + c .field-at3 .result
+  end c = place c + 2 + c .field-at2 .result
 
   ends : (c : Sized) → end c ≡ place c + 2 + fieldAt (image (entry c)) (place c)
-  ends c = ap (λ (n : ℕ). place c + 2 + n) (c .field-at3 .ensures .0)
+  ends c = ap (λ (n : ℕ). place c + 2 + n) (c .field-at2 .ensures .0)
 
   -- the record of the clause lies within the image
   bounds : (c : Sized) → (place c + 4 ≤ end c) × (end c ≤ length (image (entry c)))
@@ -169,7 +175,7 @@ module _ (t : ℕ) where
 
   -- behind a false literal: on to the next clause
   failed : (c : Told) → c .is-true .result ≡ false → (now : List ℕ)
-      → (let s = sized (meets c) in let e = entry s in Noted (book e) (assumed e) now → Scan (image e) (assumed e) (atom e) (s .before .before .before .field-at2 .result) (end s) (s .before .before .clauses .i + 1) now)
+      → (let s = sized (meets c) in let e = entry s in Noted (book e) (assumed e) now → Scan (image e) (assumed e) (atom e) (s .before .before .before .field-at .result) (end s) (s .before .before .clauses .i + 1) now)
   failed c f now noted =
       let s = sized (meets c) in
       scan-behind _ (accepts (entry s)) _ _ _ _ _ _ (s .before .before .clauses .inv) (s .before .if3 .left) _ now (ends s) noted
@@ -185,7 +191,7 @@ module _ (t : ℕ) where
         subst (λ (l : List ℕ). Noted (book e) (assumed e) l) (sym (w .1)) (c .before .clauses .inv .noted),
       ))
       (λ w.
-      let inside = bounds (record { before = record { before = c .before; if3 = w .0 }; field-at3 = w .1 }) in (
+      let inside = bounds (record { before = record { before = c .before; if3 = w .0 }; field-at2 = w .1 }) in (
         w .10 ∙ sym (read-over _ (accepts e) _ _ _ _ _ _ _ (w .4 .inv) (part-end _ _ _ (omega (arith, inside .0)) (inside .1) _ (sym (w .6 .ensures) ∙ w .8 .given .1))),
         subst (λ (l : List ℕ). Noted (book e) (assumed e) l) (sym (w .9)) (w .4 .inv .noted),
       ))
@@ -201,15 +207,15 @@ module _ (t : ℕ) where
       let e = c .before .before .before in
       (noted-known (book e) (assumed e) (atom e) (e .args .memo .now) (e .pre .1 .1 .0) (c .if1 .taken), e .pre .1 .1 .0)
 
-  field-at-requires : lts.Need-field-at-requires (claims t) (value-at t) value.Post Inv-loop μ-loop Inv-clauses μ-clauses
-  field-at-requires c κs =
+  abducibles-requires : lts.Need-abducibles-requires (claims t) (value-at t) value.Post Inv-loop μ-loop Inv-clauses μ-clauses
+  abducibles-requires c κs =
       let sh = shows (image (c .before .before .before)) (accepts (c .before .before .before)) in
       omega (arith, sh .front, sh .fits)
 
   is-in-requires : lts.Need-is-in-requires (claims t) (value-at t) value.Post Inv-loop μ-loop Inv-clauses μ-clauses
   is-in-requires c κs =
       let e = first (c .before) in
-      omega (arith, shows (image e) (accepts e) .abducibles, few-abducibles (image e) (accepts e), c .before .field-at .ensures .0, c .if2 .taken)
+      omega (arith, shows (image e) (accepts e) .abducibles, few-abducibles (image e) (accepts e), c .before .abducibles .ensures .0, c .if2 .taken)
 
   note-requires : lts.Need-note-requires (claims t) (value-at t) value.Post Inv-loop μ-loop Inv-clauses μ-clauses
   note-requires c κs = tt
@@ -220,15 +226,15 @@ module _ (t : ℕ) where
   returns-2 : lts.Need-returns-2 (claims t) (value-at t) value.Post Inv-loop μ-loop Inv-clauses μ-clauses
   returns-2 c =
       let e = first (c .before .before .before) in
-      let below : atom e < book e .abducibles = omega (arith, shows (image e) (accepts e) .abducibles, c .before .before .before .field-at .ensures .0, c .before .before .if2 .taken) in
+      let below : atom e < book e .abducibles = omega (arith, shows (image e) (accepts e) .abducibles, c .before .before .before .abducibles .ensures .0, c .before .before .if2 .taken) in
       let right = c .before .is-in .ensures ∙ sym (value-set (image e) (accepts e) (assumed e) (atom e) below) in
       (right, noted-more (book e) (assumed e) (atom e) _ _ (e .args .memo .now) (e .pre .1 .1 .0) right (c .note .ensures))
 
   clauses-requires : lts.Need-clauses-requires (claims t) (value-at t) value.Post Inv-loop μ-loop Inv-clauses μ-clauses
-  clauses-requires c κs = accepts (first (c .before))
+  clauses-requires c κs = shown-front (shows _ (accepts (first (c .before))))
 
-  field-at-requires-2 : lts.Need-field-at-requires-2 (claims t) (value-at t) value.Post Inv-loop μ-loop Inv-clauses μ-clauses
-  field-at-requires-2 c κs =
+  field-at-requires : lts.Need-field-at-requires (claims t) (value-at t) value.Post Inv-loop μ-loop Inv-clauses μ-clauses
+  field-at-requires c κs =
       let e = first (c .before .before) in
       omega (arith, clauses-fit (image e) (accepts e), c .clauses2 .ensures)
 
@@ -240,32 +246,32 @@ module _ (t : ℕ) where
   clauses-holds : lts.Need-clauses-holds (claims t) (value-at t) value.Post Inv-loop μ-loop Inv-clauses μ-clauses
   clauses-holds c =
       let e = first (c .before .before .before) in
-      let defined : book e .abducibles ≤ atom e = omega (arith, shows (image e) (accepts e) .abducibles, c .before .before .before .field-at .ensures .0, c .before .before .if2 .left) in
-      scan-start (image e) (accepts e) (assumed e) (atom e) _ _ (e .args .memo .now) (e .pre .1 .1 .0) defined (c .field-at2 .ensures .0) (c .before .clauses2 .ensures)
+      let defined : book e .abducibles ≤ atom e = omega (arith, shows (image e) (accepts e) .abducibles, c .before .before .before .abducibles .ensures .0, c .before .before .if2 .left) in
+      scan-start (image e) (accepts e) (assumed e) (atom e) _ _ (e .args .memo .now) (e .pre .1 .1 .0) defined (c .field-at .ensures .0) (c .before .clauses2 .ensures)
 
   add-head : lts.Need-add-head (claims t) (value-at t) value.Post Inv-loop μ-loop Inv-clauses μ-clauses
   add-head c =
       let clause = scan-clause _ (accepts (first (c .before .before .before .before .before))) _ _ _ _ _ _ (c .before .clauses .inv) (c .if3 .left) in
       omega (arith, clause .headed, clause .ended, first (c .before .before .before .before .before) .good)
 
-  field-at-requires-3 : lts.Need-field-at-requires-3 (claims t) (value-at t) value.Post Inv-loop μ-loop Inv-clauses μ-clauses
-  field-at-requires-3 c κs =
+  field-at-requires-2 : lts.Need-field-at-requires-2 (claims t) (value-at t) value.Post Inv-loop μ-loop Inv-clauses μ-clauses
+  field-at-requires-2 c κs =
       let clause = scan-clause _ (accepts (first (c .before .before .before .before .before))) _ _ _ _ _ _ (c .before .clauses .inv) (c .if3 .left) in
       omega (arith, clause .headed, clause .ended)
 
   cast-end : lts.Need-cast-end (claims t) (value-at t) value.Post Inv-loop μ-loop Inv-clauses μ-clauses
-  cast-end c = omega (arith, c .field-at3 .ensures .1)
+  cast-end c = omega (arith, c .field-at2 .ensures .1)
 
   add-end : lts.Need-add-end (claims t) (value-at t) value.Post Inv-loop μ-loop Inv-clauses μ-clauses
   add-end c = omega (arith, bounds c .1, entry c .good)
 
-  field-at-requires-4 : lts.Need-field-at-requires-4 (claims t) (value-at t) value.Post Inv-loop μ-loop Inv-clauses μ-clauses
-  field-at-requires-4 c κs = omega (arith, bounds c .0, bounds c .1)
+  field-at-requires-3 : lts.Need-field-at-requires-3 (claims t) (value-at t) value.Post Inv-loop μ-loop Inv-clauses μ-clauses
+  field-at-requires-3 c κs = omega (arith, bounds c .0, bounds c .1)
 
   loop-holds : lts.Need-loop-holds (claims t) (value-at t) value.Post Inv-loop μ-loop Inv-clauses μ-clauses
   loop-holds c =
       let s = c .before .before in
-      scan-enter _ (accepts (entry s)) _ _ _ _ _ _ (s .before .before .clauses .inv) (s .before .if3 .left) _ _ refl (ends s) (sym (c .before .field-at4 .ensures .0) ∙ c .if4 .taken)
+      scan-enter _ (accepts (entry s)) _ _ _ _ _ _ (s .before .before .clauses .inv) (s .before .if3 .left) _ _ refl (ends s) (sym (c .before .field-at3 .ensures .0) ∙ c .if4 .taken)
 
   sub-walk : lts.Need-sub-walk (claims t) (value-at t) value.Post Inv-loop μ-loop Inv-clauses μ-clauses
   sub-walk c = omega arith
@@ -311,7 +317,7 @@ module _ (t : ℕ) where
   add-i : lts.Need-add-i (claims t) (value-at t) value.Post Inv-loop μ-loop Inv-clauses μ-clauses
   add-i c =
       let s = c .before .before in
-      omega (arith, s .before .before .clauses .inv .reached, s .before .if3 .left, s .before .before .before .field-at2 .ensures .1)
+      omega (arith, s .before .before .clauses .inv .reached, s .before .if3 .left, s .before .before .before .field-at .ensures .1)
 
   clauses-less : lts.Need-clauses-less (claims t) (value-at t) value.Post Inv-loop μ-loop Inv-clauses μ-clauses
   clauses-less c =
@@ -330,9 +336,9 @@ module _ (t : ℕ) where
       failed (record { before = called; is-true = w .9 }) (not-true _ (w .10 .taken)) (c .if4 .memo)
       (subst (λ (l : List ℕ). Noted (book e) (assumed e) l) (sym (w .11)) (w .8 .ensures .1)))
       (λ w.
-      subst (λ (l : List ℕ). Scan (image e) (assumed e) (atom e) (s .before .before .before .field-at2 .result) (end s) (s .before .before .clauses .i + 1) l) (sym (w .1))
+      subst (λ (l : List ℕ). Scan (image e) (assumed e) (atom e) (s .before .before .before .field-at .result) (end s) (s .before .before .clauses .i + 1) l) (sym (w .1))
       (scan-other _ (accepts e) _ _ _ _ _ _ (s .before .before .clauses .inv) (s .before .if3 .left) _ (ends s)
-      (λ h. w .0 .left (c .before .field-at4 .ensures .0 ∙ h))))
+      (λ h. w .0 .left (c .before .field-at3 .ensures .0 ∙ h))))
       (c .if4 .came)
 
   note-requires-2 : lts.Need-note-requires-2 (claims t) (value-at t) value.Post Inv-loop μ-loop Inv-clauses μ-clauses
@@ -357,20 +363,20 @@ pub +value-spec : {M : Type 1} → statement M
     μ-clauses
     (element-copy-out-noted t)
     (returns t)
-    (field-at-requires t)
+    (abducibles-requires t)
     (is-in-requires t)
     (note-requires t)
     (element-write-memo t)
     (returns-2 t)
     (clauses-requires t)
-    (field-at-requires-2 t)
+    (field-at-requires t)
     (add-place t)
     (clauses-holds t)
     (add-head t)
-    (field-at-requires-3 t)
+    (field-at-requires-2 t)
     (cast-end t)
     (add-end t)
-    (field-at-requires-4 t)
+    (field-at-requires-3 t)
     (loop-holds t)
     (sub-walk t)
     (part-walk-start t)

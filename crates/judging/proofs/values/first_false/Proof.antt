@@ -5,9 +5,9 @@ use native.Mathlib.Omega.{arith}
 use borrow.Author.Needs.{needs}
 use borrow.Author.Tests.{not-true, not-false}
 use lib.ListN.{length}
-use Rattle.judging.specs.Meaning.{true-in, value}
-use Rattle.judging.specs.Notes.{bookIn}
-use Rattle.book.specs.Book.{Lit}
+use Rattle.meaning.specs.paper.Meaning.{true-in, value}
+use Rattle.image.specs.Accepted.{bookIn}
+use Rattle.image.specs.paper.Book.{Lit}
 use Rattle.judging.proofs.Image.{Here, met-literal, met-end, met-truth}
 use Rattle.judging.proofs.Run.{Run, run-start, run-over, run-known, run-false, run-true}
 use Rattle.judging.proofs.values.first_false.Statement.{statement}

@@ -3,7 +3,7 @@
 use Prim.Native.Nat.{_-_}
 use native.Mathlib.Omega.{arith}
 use lib.ListN.{length}
-use Rattle.sets.proofs.Loops.{Clearing, clearing-start, clearing-more, clearing-end}
+use Rattle.sets.proofs.Filling.{Clearing, clearing-start, clearing-more, clearing-end}
 use Rattle.sets.proofs.lists.clear.Statement.{statement}
 use Rattle.sets.proofs.lists.clear.Tie as tie
 

@@ -3,7 +3,7 @@
 use Prim.Native.Nat.{_-_, _≤_}
 use mathlib.Core.Path.{_≡_, refl}
 use native.Mathlib.Omega.{arith}
-use Rattle.sets.proofs.Loops.{Copying, copying-more, copying-end}
+use Rattle.sets.proofs.Filling.{Copying, copying-more, copying-end}
 use Rattle.sets.proofs.lists.copy.Statement.{statement}
 use Rattle.sets.proofs.lists.copy.Tie as tie
 

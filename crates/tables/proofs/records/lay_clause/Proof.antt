@@ -1,10 +1,11 @@
 -- `tables::records::lay_clause` meets its contract. Assumes nothing.
-use Prim.Native.Nat.{ℕ, _+_, _-_, _*_, _/_}
+use Prim.Native.Nat.{ℕ, _-_, _/_}
 use native.Mathlib.Omega.{arith}
 use mathlib.Core.Path.{ap}
 use lib.ListN.{length-set}
-use Rattle.tables.specs.Lay.{pair-length}
-use Rattle.tables.specs.Clauses.{Record, clause-there, clause-record, clause-laid}
+use Rattle.area.specs.Area.{clauseWay}
+use Rattle.area.specs.Lay.{pair-length}
+use Rattle.tables.specs.Clauses.{ClauseThere, clause-there, clause-record, clause-laid}
 use borrow.Author.Needs.{needs}
 use Rattle.tables.proofs.records.lay_clause.Statement.{statement}
 use Rattle.tables.proofs.records.lay_clause.Tie as tie
@@ -17,7 +18,7 @@ abbrev entry : tie.After-field-at → tie.Start
 entry c = c .before .before .before
 
 -- what stands there
-stands : (c : tie.After-field-at) → let a = entry c .args in Record (a .image .now) (a .work .now) (a .c) (a .place .at) (a .place .way) (entry c .pre) (c .field-at .result / 2 - 1)
+stands : (c : tie.After-field-at) → let a = entry c .args in ClauseThere (a .image .now) (a .work .now) (a .c) (a .place .at) (a .place .way) (entry c .pre) (c .field-at .result / 2 - 1)
 stands c = clause-record _ _ _ _ _ (entry c .pre) _ (ap (λ (k : ℕ). k / 2 - 1) (c .field-at .ensures .0))
 
 list-of-requires : tie.Need-list-of-requires
@@ -35,13 +36,13 @@ slice-write-work-3 c =
     let e = entry (sized l) in
     let r = stands (sized l) in
     let long = e .pre .long in
-    omega (arith, l .lay-opposites .ensures .size, pair-length (e .args .work .now) (2440 + 2 * e .args .c) (l .before .before .before .list-of .result) (l .before .before .field-at2 .result))
+    omega (arith, l .lay-opposites .ensures .size, pair-length (e .args .work .now) (clauseWay (e .args .c)) (l .before .before .before .list-of .result) (l .before .before .field-at2 .result))
+
+add-t11 : tie.Need-add-t11
+add-t11 c = let r = stands (sized (c .before .before)) in omega arith
 
 add-t14 : tie.Need-add-t14
 add-t14 c = let r = stands (sized (c .before .before)) in omega arith
-
-add-t12 : tie.Need-add-t12
-add-t12 c = let r = stands (sized (c .before .before)) in omega arith
 
 add-t20 : tie.Need-add-t20
 add-t20 c = let r = stands (sized (c .before .before)) in omega arith
@@ -74,14 +75,15 @@ lay-clause-spec =
     (λ c. let r = stands (c .before .before) in omega arith)
     (λ c. let r = stands (c .before .before) in let p = entry (c .before .before) .pre in simp length-set (omega arith))
     (λ c. let r = stands (c .before .before .before) in omega arith)
+    (λ c. search needs)
     lay-opposites-requires
     (λ c. search needs)
     (λ c. search needs)
     mul-work-4
     slice-write-work-3
-    add-t14
+    add-t11
     (λ c. search needs)
-    add-t12
+    add-t14
     (λ c. search needs)
     add-t20
     same-length

@@ -2,8 +2,8 @@
 use Prim.Native.Nat.{ℕ, _-_, _≤_}
 use native.Mathlib.Omega.{arith}
 use mathlib.Core.Path.{subst}
-use Rattle.book.specs.Accepted.{within}
-use Rattle.tables.specs.Clauses.{bookOf, ClausesLaid, clauses-start, clauses-due, clauses-step}
+use Rattle.image.specs.Accepted.{within, bookIn}
+use Rattle.tables.specs.Clauses.{ClausesLaid, clauses-start, clauses-due, clauses-step}
 use borrow.Author.Needs.{needs}
 use Rattle.tables.proofs.records.lay_clauses.Statement.{statement}
 use Rattle.tables.proofs.records.lay_clauses.Tie as tie
@@ -35,8 +35,8 @@ lay-clauses-spec =
     (tie.spec
     Inv-loop
     μ-loop
-    (λ c. let p = c .before .before .pre in omega (arith, within _ (bookOf _) (p .book) .clauses))
-    (λ c. let p = c .before .before .pre in omega (arith, within _ (bookOf _) (p .book) .clauses))
+    (λ c. let p = c .before .before .pre in omega (arith, within _ (bookIn _) (p .book) .clauses))
+    (λ c. let p = c .before .before .pre in omega (arith, within _ (bookIn _) (p .book) .clauses))
     loop-holds
     lay-clause-requires
     (λ c. search needs)

@@ -1,0 +1,2 @@
+-- What must be believed: the reader's promise.
+pub mod Reading

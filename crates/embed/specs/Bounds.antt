@@ -1,0 +1,217 @@
+-- How large the parts of each answer can be, by the promise of the call that gives it.
+-- Assumes nothing.
+use Prim.Native.Nat.{ℕ, _^_, _≤_}
+use mathlib.Core.Path.{_≡_, refl, sym, subst}
+use mathlib.Core.Bool.{Bool, true, false}
+use mathlib.Core.List.{List, [], _∷_}
+use mathlib.Core.Logic.{inr, ⊎-elim}
+use native.Mathlib.Omega.{arith}
+use borrow.Author.Tests.{ltb-true, ltb-false}
+use lib.Dec.{leb, ltb}
+use lib.ListN.{length}
+use Rattle.base.specs.paper.Bools.{choose}
+use Rattle.base.specs.Bools.{decide}
+use Rattle.base.specs.paper.Lists.{all, any}
+use Rattle.base.specs.paper.Members.{has}
+use Rattle.image.specs.paper.Book.{Book}
+use Rattle.image.specs.paper.Faults.{limits}
+use Rattle.image.specs.paper.Decode.{Decoded, accepted, refused, decode}
+use Rattle.image.specs.Numbers.{decode-number}
+use Rattle.image.specs.Accepted.{within}
+use Rattle.book.specs.paper.Reading.{Reads, readingOf}
+use Rattle.book.specs.declared.Reading.{Reading}
+use Rattle.book.specs.declared.Reading.the-variants as reading
+use Rattle.meaning.specs.paper.Meaning.{true-in, value, holds}
+use Rattle.judging.specs.FailingLaws.{failing-most}
+use Rattle.judging.specs.paper.Judged.{Judges, judged, judgedOf, judgedBook, firstFalse, firstBroken}
+use Rattle.judging.specs.declared.Judgement.{Judgement}
+use Rattle.judging.specs.declared.Judgement.the-variants as judgement
+use Rattle.searching.specs.paper.Rules.{root, Outcome, finished, used-up, no-room, run-from, sent, searchEnd}
+use Rattle.searching.specs.paper.Tree.{size}
+use Rattle.searching.specs.Outcomes.{kept-at, Says, finishes, runs-out, fills-up, says}
+use Rattle.sets.specs.KeptLaws.{sort-length}
+use Rattle.joiner.specs.paper.Join.{Long, Outcome as Ending, refused20, refused31, counted, Joins}
+use Rattle.sets.specs.paper.Kept.{longest}
+use Rattle.joiner.specs.JoinLaws.{joins-outcome}
+use Rattle.joiner.specs.declared.Joined.{Joined}
+use Rattle.joiner.specs.declared.Joined.the-variants as joined
+use Rattle.lister.specs.paper.Promise.{mostBudget, Result, turned, searched, byBook, resultOf, answerOf, Lists}
+use Rattle.lister.specs.declared.Listing.{Listing}
+use Rattle.lister.specs.declared.Listing.the-variants as list
+use Rattle.engine.specs.paper.Verdict.{named, asked, verdictResult, decided, verdictOf, Verdicts}
+use Rattle.engine.specs.declared.Verdict.{Verdict}
+use Rattle.engine.specs.declared.Verdict.the-variants as verdict
+use Rattle.area.specs.paper.Work.{workNumbers}
+
+-- the last of document 01's refusal numbers
+abbrev pub lastNumber : ℕ
+lastNumber = 31
+
+-- the most nodes that a search visits: the largest budget
+abbrev pub mostNodes : ℕ
+mostNodes = mostBudget
+
+-- a refusal's number
+pub record Refusal (m : ℕ) : Type 0 where
+  pub some : 1 ≤ m
+  pub most : m ≤ lastNumber
+
+-- a count of sets and one of nodes
+pub record Counts (k n : ℕ) : Type 0 where
+  pub sets : k ≤ longest
+  pub nodes : n ≤ mostNodes
+
+-- a refusal's number and the nodes before it
+pub record RefusedAt (m n : ℕ) : Type 0 where
+  pub number : Refusal m
+  pub nodes : n ≤ mostNodes
+
+refusal : (m : ℕ) → 1 ≤ m → m ≤ lastNumber → Refusal m
+refusal m p q = record { some = p; most = q }
+
+-- the reader's numbers are among them
+by-reader : (s : List ℕ) (n : ℕ) → decode s ≡ refused n → Refusal n
+by-reader s n e = let k = decode-number s n e in refusal n (k .some) (omega (arith, k .most))
+
+tested : {A : Type 0} (P : A → Type 0) (t : Bool) {x y : A} → (t ≡ true → P x) → (t ≡ false → P y) → P (choose t x y)
+tested P true p q = p refl
+tested P false p q = q refl
+
+-- ---- read
+
+abbrev pub ReadingWithin : Reading → Type 0
+ReadingWithin reading.Accepted = Unit {0}
+ReadingWithin (reading.Refused n) = Refusal n
+
+pub reading-within : (s : List ℕ) (r : Reading) → Reads s r → ReadingWithin r
+reading-within s r h = subst ReadingWithin (sym (h .answer)) (go (decode s) refl)
+  where
+    go : (x : Decoded) → decode s ≡ x → ReadingWithin (readingOf x)
+    go (accepted b) e = tt
+    go (refused n) e = by-reader s n e
+
+-- ---- judge
+
+abbrev pub JudgementWithin : Judgement → Type 0
+JudgementWithin judgement.Explains = Unit {0}
+JudgementWithin (judgement.FalseGoal p) = p ≤ limits .goal
+JudgementWithin (judgement.BrokenConstraint p) = p ≤ limits .constraints
+JudgementWithin (judgement.Refused n) = Refusal n
+
+pub judgement-within : (s : List ℕ) (d : ℕ) (r : Judgement) → Judges s d r → JudgementWithin r
+unfolding judged judgedBook
+judgement-within s d r h = subst JudgementWithin (sym (h .answer)) (go (decode s) refl)
+  where
+    go : (x : Decoded) → decode s ≡ x → JudgementWithin (judgedOf x d)
+    go (refused n) e = by-reader s n e
+    go (accepted b) e =
+        let few = within s b e in
+        tested JudgementWithin (leb (2 ^ b .abducibles) d) (λ _. refusal 23 (omega arith) (omega arith))
+        (λ _. tested JudgementWithin (ltb (firstFalse b d) (length (b .goal)))
+        (λ _. omega (arith, few .goal, failing-most (true-in (value b d)) (b .goal)))
+        (λ _. tested JudgementWithin (ltb (firstBroken b d) (length (b .constraints)))
+        (λ _. omega (arith, few .constraints, failing-most (holds (value b d)) (b .constraints)))
+        (λ _. tt)))
+
+-- ---- list
+
+abbrev ResultWithin : Result → Type 0
+ResultWithin (turned m) = Refusal m
+ResultWithin (searched (finished l n)) = Counts (length l) n
+ResultWithin (searched (used-up n)) = n ≤ mostNodes
+ResultWithin (searched (no-room n)) = n ≤ mostNodes
+
+-- a search ends within its room and its budget
+search-within : (b : Book) (room budget : ℕ) → room ≤ longest → budget ≤ mostNodes → ResultWithin (searched (searchEnd b room budget))
+search-within b room budget few low = go (run-from b room budget (root b)) (says b room budget (root b))
+  where
+    go : (o : Outcome) → Says b room budget (root b) o → ResultWithin (searched (sent o))
+    go o (finishes h f e) =
+        let all : ℕ = size b (root b) in
+        subst (λ (x : Outcome). ResultWithin (searched (sent x))) (sym e)
+        (record { sets = omega (arith, sort-length (kept-at b (root b) all), f all (omega arith)); nodes = omega arith })
+    go o (runs-out h f e) = subst (λ (x : Outcome). ResultWithin (searched (sent x))) (sym e) low
+    go o (fills-up i h g f r e) = subst (λ (x : Outcome). ResultWithin (searched (sent x))) (sym e) (omega arith)
+
+result-within : (s : List ℕ) (budget room space : ℕ) → ResultWithin (resultOf s budget room space)
+unfolding resultOf
+result-within s budget room space = go (decode s) refl
+  where
+    go : (x : Decoded) → decode s ≡ x → ResultWithin (byBook x room space budget)
+    go (refused n) e = by-reader s n e
+    go (accepted b) e =
+        tested ResultWithin (ltb longest room) (λ _. refusal 20 (omega arith) (omega arith))
+        (λ few. tested ResultWithin (ltb space workNumbers) (λ _. refusal 21 (omega arith) (omega arith))
+        (λ _. tested ResultWithin (ltb mostNodes budget) (λ _. refusal 22 (omega arith) (omega arith))
+        (λ low. search-within b room budget (ltb-false longest room few) (ltb-false mostNodes budget low))))
+
+abbrev pub ListingWithin : Listing → Type 0
+ListingWithin (list.Listed k n) = Counts k n
+ListingWithin (list.Refused m n) = RefusedAt m n
+
+pub listing-within : (s : List ℕ) (budget : ℕ) (sets work : List ℕ) (r : Listing) (sets′ work′ : List ℕ)
+    → Lists s budget sets work r sets′ work′ → ListingWithin r
+listing-within s budget sets work r sets′ work′ h =
+    subst ListingWithin (sym (h .answer)) (go (resultOf s budget (length sets) (length work)) (result-within s budget (length sets) (length work)))
+  where
+    go : (x : Result) → ResultWithin x → ListingWithin (answerOf x)
+    go (turned m) k = record { number = k; nodes = omega arith }
+    go (searched (finished l n)) k = k
+    go (searched (used-up n)) k = record { number = refusal 30 (omega arith) (omega arith); nodes = k }
+    go (searched (no-room n)) k = record { number = refusal 31 (omega arith) (omega arith); nodes = k }
+
+-- ---- verdict
+
+abbrev pub VerdictWithin : Verdict → Type 0
+VerdictWithin (verdict.Unexplained n) = n ≤ mostNodes
+VerdictWithin (verdict.Needed n) = n ≤ mostNodes
+VerdictWithin (verdict.Possible n) = n ≤ mostNodes
+VerdictWithin (verdict.RuledOut n) = n ≤ mostNodes
+VerdictWithin (verdict.Refused m n) = RefusedAt m n
+
+pub verdict-within : (s : List ℕ) (h budget : ℕ) (sets work : List ℕ) (r : Verdict) (sets′ work′ : List ℕ)
+    → Verdicts s h budget sets work r sets′ work′ → VerdictWithin r
+unfolding verdictResult
+verdict-within s h budget sets work r sets′ work′ v =
+    let room = length sets in
+    let space = length work in
+    subst VerdictWithin (sym (v .answer))
+    (go (verdictResult s h budget room space) (ask (named (decode s) h) (resultOf s budget room space) (result-within s budget room space)))
+  where
+    ask : (t : Bool) (x : Result) → ResultWithin x → ResultWithin (asked t x)
+    ask t (turned m) k = k
+    ask true (searched o) k = k
+    ask false (searched o) k = refusal 23 (omega arith) (omega arith)
+
+    decides : (l : List ℕ) (n : ℕ) → n ≤ mostNodes → VerdictWithin (decided h l n)
+    decides [] n k = k
+    decides (d ∷ l) n k =
+        tested VerdictWithin (all (λ (x : ℕ). has x h) (d ∷ l)) (λ _. k)
+        (λ _. tested VerdictWithin (any (λ (x : ℕ). has x h) (d ∷ l)) (λ _. k) (λ _. k))
+
+    go : (x : Result) → ResultWithin x → VerdictWithin (verdictOf h x)
+    go (turned m) k = record { number = k; nodes = omega arith }
+    go (searched (finished l n)) k = decides l n (k .nodes)
+    go (searched (used-up n)) k = record { number = refusal 30 (omega arith) (omega arith); nodes = k }
+    go (searched (no-room n)) k = record { number = refusal 31 (omega arith) (omega arith); nodes = k }
+
+-- ---- join
+
+abbrev pub JoinedWithin : Joined → Type 0
+JoinedWithin (joined.Count k) = k ≤ longest
+JoinedWithin (joined.Refused n) = Refusal n
+
+pub joined-within : (left right out : List ℕ) (r : Joined) (after : List ℕ) → Joins left right out r after → JoinedWithin r
+joined-within left right out r after h = go (joins-outcome h)
+  where
+    short : (Long left right out → ⊥) → length out ≤ longest
+    short fits =
+        ⊎-elim
+        (λ (t : ltb longest (length out) ≡ true). absurd (fits (inr (inr (ltb-true longest (length out) t)))))
+        (λ (t : ltb longest (length out) ≡ false). ltb-false longest (length out) t)
+        (decide (ltb longest (length out)))
+
+    go : Ending left right out r after → JoinedWithin r
+    go (refused20 l a s) = subst JoinedWithin (sym a) (refusal 20 (omega arith) (omega arith))
+    go (refused31 l fits j more a s) = subst JoinedWithin (sym a) (refusal 31 (omega arith) (omega arith))
+    go (counted l fits j room a s) = subst JoinedWithin (sym a) (omega (arith, short fits))

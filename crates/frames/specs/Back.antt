@@ -1,0 +1,394 @@
+-- After a failure: the marks since the newest frame are taken off, and it gives its next way.
+-- Assumes nothing.
+use Prim.Native.Nat.{ℕ, zero, suc, _+_, _-_, _*_, _/_, _≤_, _<_}
+use native.Mathlib.Omega.{arith}
+use native.Mathlib.Nat.{le-refl}
+use mathlib.Core.Path.{_≡_, refl, sym, ap, ap₂, subst, subst₂, _∙_}
+use mathlib.Core.Logic.{_⊎_, inl, inr, ⊎-elim}
+use mathlib.Core.List.{List, [], _∷_, _++_, map}
+use lib.Dec.{ltb}
+use borrow.Author.Tests.{ltb-true, ltb-false}
+use lib.ListN.{length, getD, set, drop, length-set}
+use lib.Seq.{getD-set-same, getD-set-other, drop-set-lt}
+use Rattle.base.specs.Bools.{decide}
+use Rattle.base.specs.paper.Lists.{Every}
+use Rattle.base.specs.Lists.{every-none, every-more, every-first, every-rest}
+use Rattle.image.specs.paper.Book.{Lit, Book}
+use Rattle.searching.specs.paper.Rules.{Task, want, Node, assumed}
+use Rattle.area.specs.Ground.{Listed, Chain, Ground, Tabled}
+use Rattle.area.specs.Area as layout
+use Rattle.image.specs.paper.Faults.{limits}
+use Rattle.memory.specs.Places.{entryAt, frameAt, wayAt, bits32, frame, entryLiteral, frameMarks, frameSet, frameAgenda, frameWay}
+use Rattle.memory.specs.declared.run.Agenda.{Agenda}
+use Rattle.memory.specs.declared.run.Run.{Run}
+use Rattle.memory.specs.States.{OVER, LIST, FAILED}
+use Rattle.memory.specs.Machine.{nodeOf, Same, Trail, marks, Leads, Free, older, short, empty, Frame, Fine, byWays, Held, bottom, under, proving, picking, list, failed, Holds, HandIn, in-hand}
+use Rattle.memory.specs.Memory.{trail-same, same-agenda, tail-same, leads-same, held-used, held-same, leads-at, free-at}
+use Rattle.memory.specs.Sheet.{tabled-undone, tabled-same}
+use Rattle.memory.specs.Marks.{trail-few}
+use Rattle.memory.specs.Pieces.{inState, giving, undone, Undoable, restoring, lowered}
+use Rattle.memory.specs.Chains.{chain-ahead, chain-none, chain-empty, fine-less}
+use Rattle.memory.specs.Contracts.{Moved, StandingIn, Backed, back-to, over}
+
+-- a frame on top of the trail's end
+data Top (image : List ℕ) (b : Book) (tab : ℕ → ℕ) (work : List ℕ) (k : ℕ) : ℕ → List Lit → List Node → Type 0 where
+  proved : {m used : ℕ} {sheet : List Lit} {due : List Node} {rest : List Task} {ls : List Lit} {lss : List (List Lit)}
+      → Frame image b tab work k (suc m) sheet (ls ∷ lss) → Leads image b tab work m (frameAgenda work k) rest
+      → Every (Fine b (suc k)) (byWays rest sheet (ls ∷ lss))
+      → used ≤ m → Held image b tab work k (suc m) used sheet due → Top image b tab work k (suc m) sheet (byWays rest sheet (ls ∷ lss) ++ due)
+  picked : {m used : ℕ} {sheet : List Lit} {due : List Node} {rest : List Task} {ls : List Lit} {lss : List (List Lit)}
+      → Frame image b tab work k m sheet (ls ∷ lss) → Free image b tab work m m (frameAgenda work k) rest (ls ∷ lss)
+      → Every (Fine b (suc k)) (byWays rest sheet (ls ∷ lss))
+      → Held image b tab work k m used sheet due → Top image b tab work k m sheet (byWays rest sheet (ls ∷ lss) ++ due)
+
+-- n marks off, the frame is on top; `bare` is the area with some marks off already
+record Peeled (image : List ℕ) (b : Book) (tab : ℕ → ℕ) (work : List ℕ) (k : ℕ) (due : List Node) (bare : List ℕ) (m : ℕ) : Type 0 where
+  base : ℕ
+  n : ℕ
+  is : m ≡ base + n
+  sheet : List Lit
+  top : Top image b tab work k base sheet due
+  trail : Trail (undone bare (entryAt base) n) base sheet
+  area : Tabled tab (undone bare (entryAt base) n) sheet
+  same : Same work (undone bare (entryAt base) n) layout.literals layout.end
+  later : drop layout.end (undone bare (entryAt base) n) ≡ drop layout.end bare
+  literals : (j : ℕ) → j < n → getD bare (entryAt base + layout.trailWidth * j + layout.cellWidth) 0 < layout.literalNumbers
+
+last-or-before : (j n : ℕ) → j < suc n → (j < n) ⊎ (j ≡ n)
+last-or-before j n h =
+    ⊎-elim (λ e. inl (ltb-true j n e)) (λ e. inr (let up : n ≤ j = ltb-false j n e in omega arith)) (decide (ltb j n))
+
+module _ {image : List ℕ} {b : Book} {tab : ℕ → ℕ} {work : List ℕ} {k : ℕ} where
+  -- one mark more
+  peel-more : {due : List Node} (bare : List ℕ) (y m : ℕ) → entryLiteral bare m ≡ y → y < layout.literalNumbers → Peeled image b tab work k due (set bare (y / 2) 0) m → Peeled image b tab work k due bare (suc m)
+  unfolding undone
+  peel-more bare y m e l x = record {
+    base = x .base;
+    n = suc (x .n);
+    is = omega (arith, x .is);
+    sheet = x .sheet;
+    top = x .top;
+    trail = subst (λ (i : List ℕ). Trail i (x .base) (x .sheet)) next (x .trail);
+    area = subst (λ (i : List ℕ). Tabled tab i (x .sheet)) next (x .area);
+    same = subst (λ (i : List ℕ). Same work i layout.literals layout.end) next (x .same);
+    later = ap (drop layout.end) (sym next) ∙ x .later ∙ drop-set-lt layout.end bare (y / 2) 0 (omega arith);
+    literals = λ j g. ⊎-elim (λ h. before j h) (λ h. newest j h) (last-or-before j (x .n) g);
+  }
+    where
+      at : entryAt (x .base) + layout.trailWidth * x .n + layout.cellWidth ≡ entryAt m + layout.cellWidth
+      at = omega (arith, x .is)
+
+      read : getD bare (entryAt (x .base) + layout.trailWidth * x .n + layout.cellWidth) 0 ≡ y
+      read = ap (λ (i : ℕ). getD bare i 0) at ∙ e
+
+      next : undone (set bare (y / 2) 0) (entryAt (x .base)) (x .n) ≡ undone bare (entryAt (x .base)) (suc (x .n))
+      next = ap (λ (i : ℕ). undone (set bare (i / 2) 0) (entryAt (x .base)) (x .n)) (sym read)
+
+      before : (j : ℕ) → j < x .n → getD bare (entryAt (x .base) + layout.trailWidth * j + layout.cellWidth) 0 < layout.literalNumbers
+      before j h =
+          subst (λ (i : ℕ). i < layout.literalNumbers) (getD-set-other bare (y / 2) (entryAt (x .base) + layout.trailWidth * j + layout.cellWidth) 0 0 (λ z. omega (arith, z))) (x .literals j h)
+
+      newest : (j : ℕ) → j ≡ x .n → getD bare (entryAt (x .base) + layout.trailWidth * j + layout.cellWidth) 0 < layout.literalNumbers
+      newest j h = subst (λ (i : ℕ). getD bare (entryAt (x .base) + layout.trailWidth * i + layout.cellWidth) 0 < layout.literalNumbers) (sym h) (subst (λ (i : ℕ). i < layout.literalNumbers) (sym read) l)
+
+  peel : {m used : ℕ} {sheet : List Lit} {due : List Node} (bare : List ℕ) → Held image b tab work (suc k) m used sheet due → Trail bare m sheet → Tabled tab bare sheet → Same work bare layout.literals layout.end
+      → Peeled image b tab work k due bare m
+  unfolding undone
+  peel bare (proving {m = m} {sheet = sheet} fr a fs u h) t ar sm =
+      record { base = suc m; n = 0; is = omega arith; sheet = sheet; top = proved fr a fs u h; trail = t; area = ar; same = sm; later = refl; literals = λ j q. absurd (omega arith) }
+  peel bare (picking {m = m} {sheet = sheet} fr a fs h) t ar sm =
+      record { base = m; n = 0; is = omega arith; sheet = sheet; top = picked fr a fs h; trail = t; area = ar; same = sm; later = refl; literals = λ j q. absurd (omega arith) }
+  peel bare (under {m = m} h) (marks y e l p q t) ar sm =
+      let atom : y / 2 < limits .atoms = omega arith in
+      let o : (j : ℕ) → layout.literals ≤ j → getD (set bare (y / 2) 0) j 0 ≡ getD bare j 0 = λ j g. getD-set-other bare (y / 2) j 0 0 (λ z. omega (arith, z)) in
+      peel-more bare y m e l
+      (peel (set bare (y / 2) 0) h (trail-same (λ j g. o (entryAt j + layout.cellWidth) (omega arith)) t) (tabled-undone y atom (p, q) ar) (λ j g i. o j g ∙ sm j g i))
+
+-- ---- the newest frame gives its next way
+
+top-places : {image : List ℕ} {b : Book} {tab : ℕ → ℕ} {work : List ℕ} {k m : ℕ} {sheet : List Lit} {due : List Node} → Top image b tab work k m sheet due
+    → (layout.ways ≤ frameWay work k) × (frameWay work k + 1 < layout.trail) × (frameMarks work k ≡ entryAt m) × (suc k ≤ layout.mostFrames)
+top-places (proved fr a fs u h) = let c = chain-ahead (fr .ways) in (c .low, c .high, fr .marked, omega (arith, every-first fs .0))
+top-places (picked fr a fs h) = let c = chain-ahead (fr .ways) in (c .low, c .high, fr .marked, omega (arith, every-first fs .0))
+
+-- the run with the marks, the set and the agenda of frame k, and a list
+abbrev back-run : List ℕ → ℕ → Run → ℕ → ℕ → ℕ → Run
+back-run bare k run d top x = record {
+  state = LIST;
+  task = x;
+  agenda = frameAgenda bare k;
+  marked = d;
+  top = top;
+  nodes = run .nodes;
+  count = run .count;
+  set = frameSet bare k;
+}
+
+back-free : (image : List ℕ) (b : Book) (tab : ℕ → ℕ) {work u : List ℕ} {m most : ℕ} {a : Agenda} (used : ℕ) {ts : List Task} {ls : List Lit} {lss : List (List Lit)} → m ≤ most
+    → Same work u layout.trail (entryAt m) → Free image b tab work m most a ts (ls ∷ lss) → Free image b tab u m used a ts (ls ∷ [])
+back-free image b tab used h f (older q a) = absurd (omega arith)
+back-free image b tab used h f (short a k) = short (leads-same image b tab f a) (every-more (every-first k) (every-none (λ (l : List Lit). length l ≤ 1)))
+back-free image b tab used h f (empty e l t) = empty e l (tail-same image b tab f t)
+
+keep-free : (image : List ℕ) (b : Book) (tab : ℕ → ℕ) {work u : List ℕ} {m most : ℕ} {a : Agenda} {ts : List Task} {ls : List Lit} {lss : List (List Lit)} → m ≤ most
+    → Same work u layout.trail (entryAt m) → Free image b tab work m most a ts (ls ∷ lss) → Free image b tab u m m a ts lss
+keep-free image b tab h f (older q a) = absurd (omega arith)
+keep-free image b tab h f (short a k) = short (leads-same image b tab f a) (every-rest k)
+keep-free image b tab h f (empty e l t) = empty e l (tail-same image b tab f t)
+
+module _ (image : List ℕ) (b : Book) (tab : ℕ → ℕ) (work : List ℕ) (k : ℕ) (run : Run) (bare : List ℕ) (same : Same work bare layout.literals layout.end) (few : suc k ≤ layout.mostFrames) where
+  -- the next way written in the frame
+  abbrev over-written : List ℕ
+  over-written = set bare (frameAt k + wayAt) (tab (frameWay work k + 1))
+
+  stays : Same work over-written layout.literals (frameAt k + wayAt)
+  stays j p q = getD-set-other bare (frameAt k + wayAt) j (tab (frameWay work k + 1)) 0 (λ z. omega (arith, z)) ∙ same j p (omega arith)
+
+  word-stays : (i : ℕ) → i < wayAt → frame over-written k i ≡ frame work k i
+  word-stays i q = stays (frameAt k + i) (omega arith) (omega arith)
+
+  word-bare : (i : ℕ) → i < layout.frameWidth → frame bare k i ≡ frame work k i
+  word-bare i q = same (frameAt k + i) (omega arith) (omega arith)
+
+  module _ (m : ℕ) (sheet : List Lit) (g : Ground image b tab) (t : Trail bare m sheet) (a : Tabled tab bare sheet) where
+    few-marks : m ≤ limits .atoms
+    few-marks = trail-few t
+
+    entries : Same work over-written layout.trail (entryAt m)
+    entries j p q = stays j (omega arith) (omega (arith, few-marks))
+
+    held-stays : {used : ℕ} {due : List Node} → Held image b tab work k m used sheet due → Held image b tab over-written k m used sheet due
+    held-stays {used} h =
+        let most : used ≤ m = held-used image b tab h in
+        held-same image b tab (λ j p q. stays j (omega arith) (omega arith)) (λ j p q. entries j p (omega arith)) h
+
+    built : (height used : ℕ) (rest : List Task) (ls : List Lit) (due : List Node) → frameSet bare k ≡ assumed b sheet
+        → Held image b tab over-written height m used sheet due
+        → Free image b tab over-written m used (frameAgenda work k) rest (ls ∷ []) → Listed image tab (tab (frameWay work k)) ls
+        → Fine b height (nodeOf (map want ls ++ rest) sheet)
+        → Holds image b over-written (back-run bare k run (entryAt m) (frameAt height) (tab (frameWay work k))) (nodeOf (map want ls ++ rest) sheet ∷ due)
+    built height used rest ls due set h fr l fn = record {
+      tab = tab;
+      height = height;
+      marks = m;
+      used = used;
+      sheet = sheet;
+      due = due;
+      ground = g;
+      area = tabled-same (length-set bare (frameAt k + wayAt) (tab (frameWay work k + 1))) (λ j p q. getD-set-other bare (frameAt k + wayAt) j (tab (frameWay work k + 1)) 0 (λ z. omega (arith, z))) a;
+      trail = trail-same (λ j p. getD-set-other bare (frameAt k + wayAt) (entryAt j + layout.cellWidth) (tab (frameWay work k + 1)) 0 (λ z. omega (arith, z, few-marks))) t;
+      held = h;
+      chosen = set;
+      marked = refl;
+      top = refl;
+      hand = list l (free-at image b tab (same-agenda work bare k (λ i q. word-bare i (omega arith))) fr) fn;
+    }
+
+    set-same : {lss : List (List Lit)} → Frame image b tab work k m sheet lss → frameSet bare k ≡ assumed b sheet
+    set-same fr = ap₂ (λ (x y : ℕ). x + bits32 * y) (word-bare 1 (omega arith)) (word-bare 2 (omega arith)) ∙ fr .set
+
+    popped : (used : ℕ) (rest : List Task) (ls : List Lit) (lss : List (List Lit)) (due : List Node) → tab (frameWay work k + 1) ≡ layout.noLink → Frame image b tab work k m sheet (ls ∷ lss)
+        → Free image b tab over-written m used (frameAgenda work k) rest (ls ∷ []) → Every (Fine b (suc k)) (byWays rest sheet (ls ∷ lss))
+        → Held image b tab work k m used sheet due
+        → Holds image b over-written (back-run bare k run (entryAt m) (frameAt k) (tab (frameWay work k))) (byWays rest sheet (ls ∷ lss) ++ due)
+    popped used rest ls lss due z fr free fs h =
+        let c = chain-ahead (fr .ways) in
+        let none : lss ≡ [] = chain-none (c .others) z in
+        subst (λ (l : List (List Lit)). Holds image b over-written (back-run bare k run (entryAt m) (frameAt k) (tab (frameWay work k))) (byWays rest sheet (ls ∷ l) ++ due)) (sym none)
+        (built k used rest ls due (set-same fr) (held-stays h) free (c .first) (fine-less b (nodeOf (map want ls ++ rest) sheet) k (every-first fs)))
+
+    frame-next : (ls : List Lit) (lss : List (List Lit)) → Frame image b tab work k m sheet (ls ∷ lss) → frameAt k + wayAt < length bare → Frame image b tab over-written k m sheet lss
+    frame-next ls lss fr room =
+        record {
+          marked = word-stays 0 (omega arith) ∙ fr .marked;
+          set = ap₂ (λ (x y : ℕ). x + bits32 * y) (word-stays 1 (omega arith)) (word-stays 2 (omega arith)) ∙ fr .set;
+          ways = subst (λ (n : ℕ). Chain image tab n lss) (sym (getD-set-same bare (frameAt k + wayAt) (tab (frameWay work k + 1)) 0 room)) (chain-ahead (fr .ways) .others);
+        }
+
+  -- the last way: the frame goes
+  pop-holds : (m : ℕ) (sheet : List Lit) (due : List Node) → Ground image b tab → Trail bare m sheet → Tabled tab bare sheet → Top image b tab work k m sheet due → tab (frameWay work k + 1) ≡ layout.noLink
+      → Holds image b over-written (back-run bare k run (entryAt m) (frameAt k) (tab (frameWay work k))) due
+  pop-holds m sheet due g t a (proved {m = n} {used} {due = below} {rest} {ls} {lss} fr ag fs u h) z =
+      popped m sheet g t a used rest ls lss below z fr (older u (leads-same image b tab (λ j p q. entries m sheet g t a j p (omega arith)) ag)) fs h
+  pop-holds m sheet due g t a (picked {used = used} {due = below} {rest} {ls} {lss} fr free fs h) z =
+      popped m sheet g t a used rest ls lss below z fr (back-free image b tab used (le-refl m) (entries m sheet g t a) free) fs h
+
+  -- another way is left: the frame stays
+  keep-holds : (m : ℕ) (sheet : List Lit) (due : List Node) → Ground image b tab → Trail bare m sheet → Tabled tab bare sheet → Top image b tab work k m sheet due → (tab (frameWay work k + 1) ≡ layout.noLink → ⊥)
+      → Holds image b over-written (back-run bare k run (entryAt m) (frameAt (suc k)) (tab (frameWay work k))) due
+  keep-holds m sheet due g t a (proved {m = n} {used} {due = below} {rest} {ls} {lss = []} fr ag fs u h) nz = absurd (nz (chain-empty (chain-ahead (fr .ways) .others)))
+  keep-holds m sheet due g t a (proved {m = n} {used} {due = below} {rest} {ls} {lss = l2 ∷ lss} fr ag fs u h) nz =
+      let ag′ : Leads image b tab over-written n (frameAgenda work k) rest = leads-same image b tab (λ j p q. entries m sheet g t a j p (omega arith)) ag in
+      let room : frameAt k + wayAt < length bare = omega (arith, a .long) in
+      built m sheet g t a (suc k) n rest ls (byWays rest sheet (l2 ∷ lss) ++ below) (set-same m sheet g t a fr)
+      (proving (frame-next m sheet g t a ls (l2 ∷ lss) fr room)
+      (leads-at image b tab (same-agenda work over-written k word-stays) ag′) (every-rest fs) u (held-stays m sheet g t a h))
+      (older (le-refl n) ag′) (chain-ahead (fr .ways) .first) (every-first fs)
+  keep-holds m sheet due g t a (picked {used = used} {due = below} {rest} {ls} {lss = []} fr free fs h) nz = absurd (nz (chain-empty (chain-ahead (fr .ways) .others)))
+  keep-holds m sheet due g t a (picked {used = used} {due = below} {rest} {ls} {lss = l2 ∷ lss} fr free fs h) nz =
+      let room : frameAt k + wayAt < length bare = omega (arith, a .long) in
+      built m sheet g t a (suc k) m rest ls (byWays rest sheet (l2 ∷ lss) ++ below) (set-same m sheet g t a fr)
+      (picking (frame-next m sheet g t a ls (l2 ∷ lss) fr room)
+      (free-at image b tab (same-agenda work over-written k word-stays) (keep-free image b tab (le-refl m) (entries m sheet g t a) free)) (every-rest fs) (held-stays m sheet g t a h))
+      (back-free image b tab m (le-refl m) (entries m sheet g t a) free) (chain-ahead (fr .ways) .first) (every-first fs)
+
+-- ---- as the code does it
+
+run-back : (bare : List ℕ) (run : Run) (f d x k d′ top x′ : ℕ) → f ≡ frameAt k → d ≡ d′ → x ≡ x′ → run .top ≡ top → giving (restoring bare run f d) LIST x ≡ back-run bare k run d′ top x′
+run-back bare run f d x k d′ top x′ p q i j = rw (p, q, i, j) refl
+
+run-popped : (bare : List ℕ) (run : Run) (f d x k d′ top x′ : ℕ) → f ≡ frameAt k → d ≡ d′ → x ≡ x′ → f ≡ top → giving (lowered (restoring bare run f d) f) LIST x ≡ back-run bare k run d′ top x′
+run-popped bare run f d x k d′ top x′ p q i j = rw (q, i) (subst (λ (n : ℕ). giving (lowered (restoring bare run f d′) f) LIST x′ ≡ back-run bare k run d′ n x′) j (rw p refl))
+
+module _ {image : List ℕ} {b : Book} {work : List ℕ} {run : Run} {all : List Node} (h : Holds image b work run all) (st : run .state ≡ FAILED) where
+  all-due : all ≡ h .due
+  all-due = go (in-hand h st)
+    where
+      go : {xs : List Node} → HandIn h FAILED (run .task) (run .agenda) xs → xs ≡ h .due
+      go failed = refl
+
+  held-none : {k m used : ℕ} {sheet : List Lit} {due : List Node} → k ≡ 0 → Held image b (h .tab) work k m used sheet due → due ≡ []
+  held-none e bottom = refl
+  held-none e (under x) = held-none e x
+  held-none e (proving f a i u x) = absurd (omega arith)
+  held-none e (picking f a i x) = absurd (omega arith)
+
+  -- no frame: nothing is due
+  nothing-due : run .top ≡ layout.frames → all ≡ []
+  nothing-due t = all-due ∙ held-none (omega (arith, h .top)) (h .held)
+
+  module _ (ne : run .top ≡ layout.frames → ⊥) where
+    up : h .height ≡ suc (h .height - 1)
+    up = positive (h .height) (λ z. ne (omega (arith, h .top, z)))
+      where
+        positive : (n : ℕ) → (n ≡ 0 → ⊥) → n ≡ suc (n - 1)
+        positive zero f = absurd (f refl)
+        positive (suc n) f = omega arith
+
+    peeled : Peeled image b (h .tab) work (h .height - 1) (h .due) work (h .marks)
+    peeled = peel work (subst (λ (n : ℕ). Held image b (h .tab) work n (h .marks) (h .used) (h .sheet) (h .due)) up (h .held)) (h .trail) (h .area) (λ j p q. refl)
+
+    place : run .top - layout.frameWidth ≡ frameAt (h .height - 1)
+    place = omega (arith, h .top, up)
+
+    places : (layout.ways ≤ frameWay work (h .height - 1)) × (frameWay work (h .height - 1) + 1 < layout.trail) × (frameMarks work (h .height - 1) ≡ entryAt (peeled .base)) × (suc (h .height - 1) ≤ layout.mostFrames)
+    places = top-places (peeled .top)
+
+    back-room : (layout.frames + layout.frameWidth ≤ run .top) × (run .top ≤ layout.end) × (layout.Long work)
+    back-room = (omega (arith, h .top, up), omega (arith, h .top, up, places .3), h .area .long)
+
+    module _ (down : ℕ) (d : down ≡ getD work (run .top - layout.frameWidth) 0) where
+      down-is : down ≡ entryAt (peeled .base)
+      down-is = d ∙ ap (λ (i : ℕ). getD work i 0) (omega (arith, place)) ∙ places .2
+
+      back-undoable : Undoable work (run .marked) down
+      back-undoable = record {
+        count = peeled .n;
+        is = omega (arith, h .marked, down-is, peeled .is);
+        low = omega (arith, down-is);
+        high = omega (arith, h .marked, trail-few (h .trail));
+        long = h .area .long;
+        literals = λ j q. subst (λ (i : ℕ). getD work (i + layout.trailWidth * j + layout.cellWidth) 0 < layout.literalNumbers) (sym down-is) (peeled .literals j q);
+      }
+
+      module _ (bare : List ℕ) (e : bare ≡ undone work down ((run .marked - down) / layout.trailWidth)) where
+        undone-is : undone work (entryAt (peeled .base)) (peeled .n) ≡ bare
+        undone-is = ap₂ (undone work) (sym down-is) (omega (arith, h .marked, down-is, peeled .is)) ∙ sym e
+
+        bare-same : Same work bare layout.literals layout.end
+        bare-same = subst (λ (l : List ℕ). Same work l layout.literals layout.end) undone-is (peeled .same)
+
+        bare-area : Tabled (h .tab) bare (peeled .sheet)
+        bare-area = subst (λ (l : List ℕ). Tabled (h .tab) l (peeled .sheet)) undone-is (peeled .area)
+
+        bare-trail : Trail bare (peeled .base) (peeled .sheet)
+        bare-trail = subst (λ (l : List ℕ). Trail l (peeled .base) (peeled .sheet)) undone-is (peeled .trail)
+
+        bare-later : drop layout.end bare ≡ drop layout.end work
+        bare-later = ap (drop layout.end) (sym undone-is) ∙ peeled .later
+
+        module _ (n : ℕ) (i : n ≡ getD bare (run .top - layout.frameWidth + wayAt) 0) where
+          way-is : n ≡ frameWay work (h .height - 1)
+          way-is = i ∙ ap (λ (x : ℕ). getD bare x 0) (omega (arith, place)) ∙ bare-same (frameAt (h .height - 1) + wayAt) (omega arith) (omega (arith, places .3))
+
+          back-way : (n + 1 < layout.trail) × (layout.Long bare)
+          back-way = (omega (arith, way-is, places .1), bare-area .long)
+
+          module _ (more x : ℕ) (j : more ≡ getD bare (n + 1) 0) (l : x ≡ getD bare n 0) where
+            more-is : more ≡ h .tab (frameWay work (h .height - 1) + 1)
+            more-is = j ∙ ap (λ (y : ℕ). getD bare (y + 1) 0) way-is ∙ bare-area .tabled (frameWay work (h .height - 1) + 1) (omega (arith, places .0)) (places .1)
+
+            list-is : x ≡ h .tab (frameWay work (h .height - 1))
+            list-is = l ∙ ap (λ (y : ℕ). getD bare y 0) way-is ∙ bare-area .tabled (frameWay work (h .height - 1)) (omega (arith, places .0)) (omega (arith, places .1))
+
+            written : set bare (run .top - layout.frameWidth + wayAt) more ≡ set bare (frameAt (h .height - 1) + wayAt) (h .tab (frameWay work (h .height - 1) + 1))
+            written = ap₂ (λ (y z : ℕ). set bare y z) (omega (arith, place)) more-is
+
+            back-pops : more ≡ layout.noLink → Holds image b (set bare (run .top - layout.frameWidth + wayAt) more) (giving (lowered (restoring bare run (run .top - layout.frameWidth) down) (run .top - layout.frameWidth)) LIST x) all
+            back-pops z =
+                subst (λ (l : List Node). Holds image b (set bare (run .top - layout.frameWidth + wayAt) more) (giving (lowered (restoring bare run (run .top - layout.frameWidth) down) (run .top - layout.frameWidth)) LIST x) l) (sym all-due)
+                (subst₂ (λ (l : List ℕ) (o : Run). Holds image b l o (h .due)) (sym written)
+                (sym (run-popped bare run (run .top - layout.frameWidth) down x (h .height - 1) (entryAt (peeled .base)) (frameAt (h .height - 1)) (h .tab (frameWay work (h .height - 1))) place down-is list-is place))
+                (pop-holds image b (h .tab) work (h .height - 1) run bare bare-same (places .3) (peeled .base) (peeled .sheet) (h .due) (h .ground) bare-trail bare-area (peeled .top) (sym more-is ∙ z)))
+
+            back-keeps : (more ≡ layout.noLink → ⊥) → Holds image b (set bare (run .top - layout.frameWidth + wayAt) more) (giving (restoring bare run (run .top - layout.frameWidth) down) LIST x) all
+            back-keeps nz =
+                let high : run .top ≡ frameAt (suc (h .height - 1)) = omega (arith, h .top, up) in
+                subst (λ (l : List Node). Holds image b (set bare (run .top - layout.frameWidth + wayAt) more) (giving (restoring bare run (run .top - layout.frameWidth) down) LIST x) l) (sym all-due)
+                (subst₂ (λ (l : List ℕ) (o : Run). Holds image b l o (h .due)) (sym written)
+                (sym (run-back bare run (run .top - layout.frameWidth) down x (h .height - 1) (entryAt (peeled .base)) (frameAt (suc (h .height - 1))) (h .tab (frameWay work (h .height - 1))) place down-is list-is high))
+                (keep-holds image b (h .tab) work (h .height - 1) run bare bare-same (places .3) (peeled .base) (peeled .sheet) (h .due) (h .ground) bare-trail bare-area (peeled .top) (λ z. nz (more-is ∙ z))))
+
+module _ (work : List ℕ) (run : Run) (pre : StandingIn work run FAILED) where
+  failing : run .state ≡ FAILED
+  failing = pre .1 .state
+
+  pub backed-over : (q : Run) → run .top ≡ layout.frames → q ≡ inState run OVER → Backed work run work q
+  backed-over q t e = over (λ image b all h. nothing-due h failing t) refl e
+
+  module _ (ne : run .top ≡ layout.frames → ⊥) where
+    pub frame-room : (layout.frames + layout.frameWidth ≤ run .top) × (run .top ≤ layout.end) × (layout.Long work)
+    frame-room = back-room (pre .1 .holds) failing ne
+
+    module _ (down : ℕ) (d : down ≡ getD work (run .top - layout.frameWidth) 0) where
+      pub frame-undoable : Undoable work (run .marked) down
+      frame-undoable = back-undoable (pre .1 .holds) failing ne down d
+
+      module _ (bare : List ℕ) (e : bare ≡ undone work down ((run .marked - down) / layout.trailWidth)) (n : ℕ) (i : n ≡ getD bare (run .top - layout.frameWidth + wayAt) 0) where
+        pub frame-way : (n + 1 < layout.trail) × (layout.Long bare)
+        frame-way = back-way (pre .1 .holds) failing ne down d bare e n i
+
+        module _ (more x : ℕ) (j : more ≡ getD bare (n + 1) 0) (l : x ≡ getD bare n 0) (p q : Run) (o : p ≡ restoring bare run (run .top - layout.frameWidth) down) where
+          later-same : drop layout.end (set bare (run .top - layout.frameWidth + wayAt) more) ≡ drop layout.end work
+          later-same =
+              drop-set-lt layout.end bare (run .top - layout.frameWidth + wayAt) more (omega (arith, frame-room .0, frame-room .1))
+              ∙ bare-later (pre .1 .holds) failing ne down d bare e
+
+          pub backed-pops : (t : Run) → more ≡ layout.noLink → t ≡ lowered p (run .top - layout.frameWidth) → q ≡ giving t LIST x → Backed work run (set bare (run .top - layout.frameWidth + wayAt) more) q
+          backed-pops t z y u =
+              let becomes : q ≡ giving (lowered (restoring bare run (run .top - layout.frameWidth) down) (run .top - layout.frameWidth)) LIST x =
+              u ∙ ap (λ (g : Run). giving g LIST x) (y ∙ ap (λ (g : Run). lowered g (run .top - layout.frameWidth)) o) in
+              back-to
+              (λ image.
+              subst (λ (g : Run). Moved image work run (set bare (run .top - layout.frameWidth + wayAt) more) g LIST) (sym becomes)
+              (record {
+                holds = λ b all h. back-pops h failing ne down d bare e n i more x j l z;
+                state = omega arith;
+                nodes = refl;
+                count = refl;
+                later = later-same;
+              }))
+
+          pub backed-keeps : (more ≡ layout.noLink → ⊥) → q ≡ giving p LIST x → Backed work run (set bare (run .top - layout.frameWidth + wayAt) more) q
+          backed-keeps nz u =
+              let becomes : q ≡ giving (restoring bare run (run .top - layout.frameWidth) down) LIST x = u ∙ ap (λ (g : Run). giving g LIST x) o in
+              back-to
+              (λ image.
+              subst (λ (g : Run). Moved image work run (set bare (run .top - layout.frameWidth + wayAt) more) g LIST) (sym becomes)
+              (record {
+                holds = λ b all h. back-keeps h failing ne down d bare e n i more x j l nz;
+                state = omega arith;
+                nodes = refl;
+                count = refl;
+                later = later-same;
+              }))

@@ -1,0 +1,8 @@
+-- What must be believed, in document 01's order: what a book is, where its image begins, the walk over the image, the faults of its
+-- fields, what depends on itself, and what an image says.
+pub mod Book
+pub mod Front
+pub mod Walk
+pub mod Faults
+pub mod Loops
+pub mod Decode

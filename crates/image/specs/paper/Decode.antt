@@ -1,0 +1,120 @@
+-- Document 01, "The book's image" and "Refusal numbers": what an image says, or the number under which it is refused.
+-- Assumes nothing.
+use Prim.Native.Nat.{ℕ, zero, suc, _+_, _-_, _*_, _/_, _%_}
+use mathlib.Core.List.{List, [], _∷_}
+use lib.ListN.{length, getD}
+use lib.Dec.{leb, eqb}
+use Rattle.base.specs.paper.Bools.{choose}
+use Rattle.image.specs.paper.Front.{version, versionAt, lengthAt, atomsAt}
+use Rattle.image.specs.paper.Book.{Lit, Clause, Constraint, Book, bodyCount, literalCount}
+use Rattle.image.specs.paper.Walk.{Step, found, fault, Walk, give, ahead, behind, Finding, fine, wrong, unless, fieldValues, fieldAt, field, running, times, before, _>>=_, _>>_}
+use Rattle.image.specs.paper.Faults.{Limits, limits, wrongAtoms, wrongAbducibles, wrongCount, wrongLit, wrongHead, wrongSize, wrongClause, bodyOf, wrongConditions, wrongAlternative}
+use Rattle.image.specs.paper.Loops.{loopFree}
+
+-- "A literal is twice its atom, plus 1 if negated."
+abbrev pub litOf : ℕ → Lit
+litOf x = record { atom = x / 2; sign = eqb (x % 2) 0 }
+
+module _ (s : List ℕ) where
+  unfoldable pub literal : ℕ → Walk Lit
+  literal atoms = do
+    x ← field s (wrongLit atoms)
+    give (litOf x)
+
+  module _ (most : Limits) (atoms : ℕ) where
+    -- "Each clause: record length in bytes after this field, head atom, body literals."
+    unfoldable pub clause : ℕ → ℕ → Walk Clause
+    clause abducibles sum = do
+      left ← behind (length s)
+      size ← field s (wrongClause left (most .bodies) sum)
+      head ← field s (wrongHead atoms abducibles)
+      body ← times (literal atoms) (bodyOf size)
+      give (record { head = head; body = body })
+
+    -- one alternative of a record that ends at `end`: literal count, literals
+    unfoldable pub alternative : ℕ → ℕ → Walk (List Lit)
+    alternative end sum = do
+      left ← behind end
+      count ← field s (wrongAlternative left (most .literals) sum)
+      times (literal atoms) count
+
+    -- "then until the record is used up"; n is at least the number of fields left
+    unfoldable pub alternatives : ℕ → ℕ → ℕ → Walk (List (List Lit))
+    alternatives end zero sum = give []
+    alternatives end (suc n) sum = before end do
+      first ← alternative end sum
+      rest ← alternatives end n (sum + length first)
+      give (first ∷ rest)
+
+    -- the inside of a record that ends at `end`: "condition count, condition literals", then the alternatives
+    unfoldable pub inside : ℕ → ℕ → ℕ → Walk Constraint
+    inside end n sum = do
+      left ← behind end
+      count ← field s (wrongConditions left (most .literals) sum)
+      conditions ← times (literal atoms) count
+      ways ← alternatives end n (sum + count)
+      give (record { conditions = conditions; alternatives = ways })
+
+    -- "Each: record length", then its inside
+    unfoldable pub constraint : ℕ → Walk Constraint
+    constraint sum = do
+      left ← behind (length s)
+      size ← field s (wrongSize left)
+      end ← ahead size
+      inside end (size / 2) sum
+
+  -- a count that may not pass its limit, then as many things
+  unfoldable pub counted : {A : Type 0} → ℕ → (ℕ → Walk A) → Walk A
+  counted most things = do
+    count ← field s (wrongCount most)
+    things count
+
+  -- "3. Clause count, clauses. 4. Constraint count, constraints."
+  unfoldable pub clausesAndConstraints : Limits → ℕ → ℕ → Walk (List Clause × List Constraint)
+  clausesAndConstraints most atoms abducibles = do
+    clauses ← counted (most .clauses) (λ n. running (clause most atoms abducibles) bodyCount n 0)
+    constraints ← counted (most .constraints) (λ n. running (constraint most atoms) literalCount n 0)
+    give (clauses, constraints)
+
+  -- "1. A, then B. 2. Goal count, goal literals.", then clauses and constraints
+  unfoldable pub book : Limits → Walk Book
+  book most = do
+    atoms ← field s (wrongAtoms (most .atoms))
+    abducibles ← field s (wrongAbducibles (most .abducibles) atoms)
+    goal ← counted (most .goal) (times (literal atoms))
+    both ← clausesAndConstraints most atoms abducibles
+    give (record { atoms = atoms; abducibles = abducibles; goal = goal; clauses = both .0; constraints = both .1 })
+
+  -- "After the last constraint, left-over bytes are 4."
+  unfoldable pub ends : Walk (Unit {0})
+  ends at = choose (eqb at (length s)) (found tt at) (fault 4 at)
+
+  unfoldable pub whole : Limits → Walk Book
+  whole most = do
+    b ← book most
+    ends
+    give b
+
+  -- four bytes, the highest first
+  unfoldable pub lengthField : ℕ
+  lengthField = fieldValues * fieldAt s lengthAt + fieldAt s (lengthAt + 2)
+
+  -- "Order: 1, 2, 3": shorter than 5 bytes; the version byte not 1; the length differs from the bytes after it
+  unfoldable pub wrongFront : Finding
+  wrongFront =
+      unless (leb atomsAt (length s)) 1
+      (unless (eqb (getD s versionAt 0) version) 2
+      (unless (eqb lengthField (length s - atomsAt)) 3 fine))
+
+pub data Decoded : Type 0 where
+  accepted : Book → Decoded
+  refused : ℕ → Decoded
+
+-- "Order: 1, 2, 3, then one walk from the front, the first fault met being the answer. Only then 9."
+unfoldable pub inOrder : Finding → Step Book → Decoded
+inOrder (wrong n) walked = refused n
+inOrder fine (fault n at) = refused n
+inOrder fine (found b at) = choose (loopFree b) (accepted b) (refused 9)
+
+unfoldable pub decode : List ℕ → Decoded
+decode s = inOrder (wrongFront s) (whole s limits atomsAt)

@@ -1,0 +1,19 @@
+-- The image's front, after document 01, "The book's image": one version byte, then the length of the rest, four bytes; then two-byte
+-- fields, A first.
+-- Assumes nothing.
+use Prim.Native.Nat.{ℕ, _+_}
+
+-- the version byte stands first, and is 1
+abbrev pub version : ℕ
+version = 1
+
+abbrev pub versionAt : ℕ
+versionAt = 0
+
+-- the length of the rest, as two fields
+abbrev pub lengthAt : ℕ
+lengthAt = versionAt + 1
+
+-- A, with which the fields begin
+abbrev pub atomsAt : ℕ
+atomsAt = lengthAt + 4

@@ -1,0 +1,28 @@
+-- Refusal 9: "an atom depends on each atom in the bodies of its clauses, negated or not, and so on through those".
+-- `Depends` says it as a relation; `loopFree` tests it by rounds. That they say the same is `LoopLaws`'.
+-- Assumes nothing.
+use Prim.Native.Nat.{ℕ, zero, suc}
+use mathlib.Core.Path.{_≡_}
+use mathlib.Core.Bool.{Bool, true, not, _&&_}
+use mathlib.Core.List.{List}
+use lib.Dec.{eqb}
+use Rattle.base.specs.paper.Lists.{_∈_, all, any, below}
+use Rattle.image.specs.paper.Book.{Lit, Clause, Book}
+
+pub data Depends (cs : List Clause) : ℕ → ℕ → Type 0 where
+  direct : {p q : ℕ} (c : Clause) (l : Lit) → c ∈ cs → c .head ≡ p → l ∈ c .body → l .atom ≡ q → Depends cs p q
+  through : {p q r : ℕ} → Depends cs p q → Depends cs q r → Depends cs p r
+
+-- In round 0 every atom is pending; in round n + 1 an atom is pending if a body of its clauses has an atom that was pending
+-- in round n.
+unfoldable pub pending : List Clause → ℕ → ℕ → Bool
+pending cs zero p = true
+pending cs (suc n) p = any (λ (c : Clause). eqb (c .head) p && any (λ (l : Lit). pending cs n (l .atom)) (c .body)) cs
+
+-- after n rounds none of the first `atoms` atoms is pending
+unfoldable pub quiet : List Clause → ℕ → ℕ → Bool
+quiet cs atoms n = all (λ (p : ℕ). not (pending cs n p)) (below atoms)
+
+-- No loop: as many rounds as there are atoms leave none pending.
+unfoldable pub loopFree : Book → Bool
+loopFree b = quiet (b .clauses) (b .atoms) (b .atoms)

@@ -1,0 +1,2 @@
+-- What the proof uses: the ways a join comes to its end.
+pub mod Joining

@@ -1,0 +1,2 @@
+-- What must be believed: the joiner's promise.
+pub mod Join

@@ -1,0 +1,3 @@
+-- What must be believed: the judge's promise.
+pub mod Failing
+pub mod Judged

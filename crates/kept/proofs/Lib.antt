@@ -1,0 +1,2 @@
+-- What the proofs share: the loops' invariants.
+pub mod Loops

@@ -1,0 +1,2 @@
+-- What must be believed: the lister's promise.
+pub mod Promise

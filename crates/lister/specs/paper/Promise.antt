@@ -1,0 +1,74 @@
+-- The lister's promise: its answer, every entry of the list and every number of the work area, on all inputs; and that what it lists is
+-- right by the meaning. Lines in quotation marks are document 01's.
+-- Assumes nothing.
+use Prim.Native.Nat.{ℕ, _-_}
+use mathlib.Core.Path.{_≡_}
+use mathlib.Core.List.{List, _++_}
+use lib.Dec.{ltb}
+use lib.ListN.{length, take, drop}
+use Rattle.base.specs.paper.Bools.{choose}
+use Rattle.image.specs.paper.Book.{Book}
+use Rattle.image.specs.paper.Decode.{Decoded, accepted, refused, decode}
+use Rattle.sets.specs.paper.Kept.{zeros, longest}
+use Rattle.searching.specs.paper.Rules.{root, Outcome, finished, used-up, no-room, searchEnd}
+use Rattle.searching.specs.paper.Tree.{size}
+use Rattle.searching.specs.paper.Explanations.{Explanations}
+use Rattle.lister.specs.declared.Listing.{Listing}
+use Rattle.lister.specs.declared.Listing.the-variants.{Listed, Refused}
+use Rattle.area.specs.paper.Work.{workNumbers}
+
+-- the largest budget
+abbrev pub mostBudget : ℕ
+mostBudget = 1000000
+
+-- how a listing ends: turned away with a number, or with a search's outcome
+pub data Result : Type 0 where
+  turned : ℕ → Result
+  searched : Outcome → Result
+
+-- "20 a list longer than 1,024 entries; 21 work area shorter than 16,384 numbers of 32 bits; 22 budget above 1,000,000", in this order and
+-- behind the book's own refusals
+abbrev pub byBook : Decoded → ℕ → ℕ → ℕ → Result
+byBook (refused n) room space budget = turned n
+byBook (accepted b) room space budget =
+    choose (ltb longest room) (turned 20)
+    (choose (ltb space workNumbers) (turned 21)
+    (choose (ltb mostBudget budget) (turned 22)
+    (searched (searchEnd b room budget))))
+
+unfoldable pub resultOf : List ℕ → ℕ → ℕ → ℕ → Result
+resultOf image budget room space = byBook (decode image) room space budget
+
+-- the answer: the number of sets or the refusal's number, then the nodes
+abbrev pub answerOf : Result → Listing
+answerOf (turned n) = Refused n 0
+answerOf (searched (finished l n)) = Listed (length l) n
+answerOf (searched (used-up n)) = Refused 30 n
+answerOf (searched (no-room n)) = Refused 31 n
+
+-- "Refusals 1 to 23 leave list and work area untouched. Refusals 30 and 31 leave every list entry 0. A finished search answers the number of
+-- sets, K, and leaves them from the front and 0 in every later entry."
+abbrev pub setsOf : Result → List ℕ → List ℕ
+setsOf (turned n) old = old
+setsOf (searched (finished l n)) old = l ++ zeros (length old - length l)
+setsOf (searched (used-up n)) old = zeros (length old)
+setsOf (searched (no-room n)) old = zeros (length old)
+
+-- "After any search, finished or not, the first 16,384 work numbers are 0 and later ones unchanged."
+abbrev pub workOf : Result → List ℕ → List ℕ
+workOf (turned n) old = old
+workOf (searched o) old = zeros workNumbers ++ drop workNumbers old
+
+-- the first k entries are exactly the smallest explaining sets of the image's book, in order, and n is the size of the search tree
+pub record Explained (image : List ℕ) (k n : ℕ) (sets : List ℕ) : Type 0 where
+  pub b : Book
+  pub book : decode image ≡ accepted b
+  pub entries : Explanations b (take k sets)
+  pub nodes : n ≡ size b (root b)
+
+pub record Lists (image : List ℕ) (budget : ℕ) (list area : List ℕ) (r : Listing) (list′ area′ : List ℕ) : Type 0 where
+  pub answer : r ≡ answerOf (resultOf image budget (length list) (length area))
+  pub sets : list′ ≡ setsOf (resultOf image budget (length list) (length area)) list
+  pub work : area′ ≡ workOf (resultOf image budget (length list) (length area)) area
+  -- if it answers that k sets are listed, these are exactly the smallest explaining sets, and n is the size of the search tree
+  pub explanations : (k n : ℕ) → r ≡ Listed k n → Explained image k n list′

@@ -1,0 +1,188 @@
+-- Where the clause records stand in the image, as the loop check reads them.
+-- Assumes nothing.
+use Prim.Native.Nat.{ℕ, zero, suc, _+_, _-_, _*_, _/_, _≤_, _<_, min}
+use mathlib.Core.Path.{_≡_, refl, sym, ap, ap₂, _∙_, subst}
+use mathlib.Core.List.{List, [], _∷_}
+use native.Mathlib.Omega.{arith}
+use lib.ListN.{length, getD, take, drop, length-take, length-drop}
+use lib.Seq.{getD-take, getD-drop}
+use Rattle.base.specs.paper.Lists.{Every, sum, flat}
+use Rattle.base.specs.Lists.{every-first, every-rest}
+use Rattle.image.specs.paper.Book.{Lit, Clause, Book, bodyCount}
+use Rattle.image.specs.paper.Walk.{found, fieldAt}
+use Rattle.image.specs.paper.Decode.{litOf, whole}
+use Rattle.image.specs.Written.{Within, whole-found}
+use Rattle.image.specs.paper.Faults.{limits, bodyOf}
+use Rattle.image.specs.Finds.{length-lits}
+use Rattle.image.specs.Spell.{ofLits, ofClause, Stands}
+use Rattle.image.specs.StandsLaws.{stands-at, stands-left, stands-right, stands-value, stands-within}
+use Rattle.image.specs.Shown.{litsAt, clauseAt, behindRecord, clausesAt, clause-at, clauses-at, record-ends, clauseCountAt, Shown, words-shown}
+use Rattle.loops.specs.Mentions.{Mention, inClause, inClauses}
+use Rattle.image.specs.paper.Front.{atomsAt}
+
+-- the clause that a part of the image has, from its head to its record's end
+unfoldable pub clauseIn : List ℕ → Clause
+clauseIn part = record { head = fieldAt part 0; body = litsAt part 2 ((length part - 2) / 2) }
+
+-- all atoms of a clause are below the most there can be
+pub record Small (c : Clause) : Type 0 where
+  pub head : c .head < limits .atoms
+  pub body : Every (λ (l : Lit). l .atom < limits .atoms) (c .body)
+
+-- n clause records stand here, all of them small, and their bodies have no more literals than there is room for
+pub record Recorded (s : List ℕ) (at n room : ℕ) : Type 0 where
+  pub clauses : List Clause
+  pub stands : Stands s at (flat ofClause clauses)
+  pub count : length clauses ≡ n
+  pub small : Every Small clauses
+  pub fits : sum bodyCount clauses ≤ room
+
+-- ---- a part of the image
+
+part-field : (s : List ℕ) (from k i : ℕ) → i + 2 ≤ k → fieldAt (take k (drop from s)) i ≡ fieldAt s (from + i)
+unfolding fieldAt
+part-field s from k i h =
+    let high : getD (take k (drop from s)) i 0 ≡ getD s (from + i) 0 = getD-take k (drop from s) i 0 (omega arith) ∙ getD-drop from s i 0 in
+    let low : getD (take k (drop from s)) (i + 1) 0 ≡ getD s (from + (i + 1)) 0 = getD-take k (drop from s) (i + 1) 0 (omega arith) ∙ getD-drop from s (i + 1) 0 in
+    let on : from + (i + 1) ≡ from + i + 1 = omega arith in
+    let low′ : getD s (from + (i + 1)) 0 ≡ getD s (from + i + 1) 0 = ap (λ (j : ℕ). getD s j 0) on in
+    omega arith
+
+part-lits : (s : List ℕ) (from k at n : ℕ) → at + 2 * n ≤ k → litsAt (take k (drop from s)) at n ≡ litsAt s (from + at) n
+unfolding litsAt
+part-lits s from k at zero h = refl
+part-lits s from k at (suc n) h =
+    let on : from + (at + 2) ≡ from + at + 2 = omega arith in
+    ap₂ _∷_ (ap litOf (part-field s from k at (omega arith)))
+    (part-lits s from k (at + 2) n (omega arith) ∙ ap (λ (j : ℕ). litsAt s j n) on)
+
+-- the literals left at a place of a part of n bytes
+pub lits-next : (s : List ℕ) (n at : ℕ) → at + 2 ≤ n → litsAt s at ((n - at) / 2) ≡ litOf (fieldAt s at) ∷ litsAt s (at + 2) ((n - (at + 2)) / 2)
+unfolding litsAt
+lits-next s n at h = let e : (n - at) / 2 ≡ suc ((n - (at + 2)) / 2) = omega arith in ap (litsAt s at) e
+
+pub lits-over : (s : List ℕ) (n at : ℕ) → n ≤ at + 1 → litsAt s at ((n - at) / 2) ≡ []
+unfolding litsAt
+lits-over s n at h = let e : (n - at) / 2 ≡ 0 = omega arith in ap (litsAt s at) e
+
+-- ---- the records, one after the other
+
+-- the first of the records that are laid here
+pub record Leads (s : List ℕ) (at room : ℕ) : Type 0 where
+  pub some : 2 ≤ fieldAt s at
+  pub ends : behindRecord s at ≤ length s
+  pub small : Small (clauseAt s at)
+  pub fits : bodyOf (fieldAt s at) ≤ room
+
+pub recorded-first : (s : List ℕ) (at n room : ℕ) → Recorded s at n room → 0 < n → Leads s at room
+recorded-first s at n room h k = go (h .clauses) (h .stands) (h .count) (h .small) (h .fits)
+  where
+    go : (cs : List Clause) → Stands s at (flat ofClause cs) → length cs ≡ n → Every Small cs → sum bodyCount cs ≤ room → Leads s at room
+    go [] st e small fits = absurd (omega arith)
+    go (c ∷ cs) st e small fits =
+        let first : Stands s at (ofClause c) = stands-left (ofClause c) (flat ofClause cs) st in
+        let size : fieldAt s at ≡ 2 * suc (length (ofLits (c .body))) = stands-value first in
+        let within : at + 2 * length (ofClause c) ≤ length s = stands-within (2 * suc (length (ofLits (c .body)))) (c .head ∷ ofLits (c .body)) first in
+        record {
+          some = omega arith;
+          ends = omega arith;
+          small = subst Small (sym (clause-at s at c first)) (every-first small);
+          fits = omega (arith, length-lits (c .body));
+        }
+
+pub recorded-rest : (s : List ℕ) (at n room : ℕ) → Recorded s at n room → 0 < n → Recorded s (behindRecord s at) (n - 1) (room - bodyOf (fieldAt s at))
+recorded-rest s at n room h k = go (h .clauses) (h .stands) (h .count) (h .small) (h .fits)
+  where
+    go : (cs : List Clause) → Stands s at (flat ofClause cs) → length cs ≡ n → Every Small cs → sum bodyCount cs ≤ room
+        → Recorded s (behindRecord s at) (n - 1) (room - bodyOf (fieldAt s at))
+    go [] st e small fits = absurd (omega arith)
+    go (c ∷ cs) st e small fits =
+        let first : Stands s at (ofClause c) = stands-left (ofClause c) (flat ofClause cs) st in
+        let size : fieldAt s at ≡ 2 * suc (length (ofLits (c .body))) = stands-value first in
+        record {
+          clauses = cs;
+          stands = stands-at (sym (record-ends s at (c .head ∷ ofLits (c .body)) first)) (stands-right (ofClause c) st);
+          count = omega arith;
+          small = every-rest small;
+          fits = omega (arith, length-lits (c .body));
+        }
+
+-- the first clause, as the part of the image from its head to its record's end
+module _ (s : List ℕ) (at room end : ℕ) (h : Leads s at room) (e : end ≡ behindRecord s at) where
+  abbrev part : List ℕ
+  part = take (end - (at + 2)) (drop (at + 2) s)
+
+  pub part-long : length part ≡ fieldAt s at
+  part-long =
+      let some : 2 ≤ fieldAt s at = h .some in
+      let ends : at + 2 + fieldAt s at ≤ length s = h .ends in
+      let long : length part ≡ min (end - (at + 2)) (length (drop (at + 2) s)) = length-take (end - (at + 2)) (drop (at + 2) s) in
+      let left : length (drop (at + 2) s) ≡ length s - (at + 2) = length-drop (at + 2) s in
+      omega arith
+
+  pub body-count : (length part - 2) / 2 ≡ bodyOf (fieldAt s at)
+  body-count = let some : 2 ≤ fieldAt s at = h .some in omega (arith, part-long)
+
+  pub clause-part : clauseIn part ≡ clauseAt s at
+  unfolding clauseIn clauseAt
+  clause-part =
+      let some : 2 ≤ fieldAt s at = h .some in
+      let two : at + 2 + 0 ≡ at + 2 = omega arith in
+      let four : at + 2 + 2 ≡ at + 4 = omega arith in
+      λ i. record {
+        head = (part-field s (at + 2) (end - (at + 2)) 0 (omega arith) ∙ ap (fieldAt s) two) i;
+        body =
+            (ap (litsAt part 2) body-count
+            ∙ part-lits s (at + 2) (end - (at + 2)) 2 (bodyOf (fieldAt s at)) (omega arith)
+            ∙ ap (λ (j : ℕ). litsAt s j (bodyOf (fieldAt s at))) four)
+            i;
+      }
+
+-- the mentions in n records, one record at a time
+pub clauses-next : (s : List ℕ) (at n : ℕ) (ms : List Mention) → 0 < n
+    → inClauses (clausesAt s at n) ms ≡ inClauses (clausesAt s (behindRecord s at) (n - 1)) (inClause (clauseAt s at) ms)
+unfolding inClauses clausesAt
+clauses-next s at zero ms h = absurd (omega arith)
+clauses-next s at (suc n) ms h =
+    let d : n ≡ suc n - 1 = omega arith in
+    ap (λ (k : ℕ). inClauses (clausesAt s (behindRecord s at) k) (inClause (clauseAt s at) ms)) d
+
+pub clauses-over : (s : List ℕ) (at n : ℕ) (ms : List Mention) → n ≡ 0 → inClauses (clausesAt s at n) ms ≡ ms
+unfolding inClauses clausesAt
+clauses-over s at n ms e = ap (λ (k : ℕ). inClauses (clausesAt s at k) ms) e
+
+-- ---- the clauses of a book that the walk found
+
+pub record Ready (s : List ℕ) (b : Book) : Type 0 where
+  pub shown : Shown s b
+  pub within : Within limits b
+
+pub found-ready : (s : List ℕ) (b : Book) (next : ℕ) → whole s limits atomsAt ≡ found b next → Ready s b
+found-ready s b next e =
+    let w = whole-found s limits atomsAt b next e in
+    record { shown = words-shown s b (w .0 .stands) (sym (w .1) ∙ w .0 .behind); within = w .0 .isFine }
+
+module _ (s : List ℕ) (b : Book) (r : Ready s b) (at count : ℕ) (e : at ≡ clauseCountAt s) (n : count ≡ fieldAt s at) where
+  pub ready-count : count ≡ length (b .clauses)
+  ready-count = n ∙ ap (fieldAt s) e ∙ r .shown .clauses
+
+  pub ready-recorded : Recorded s (at + 2) count (limits .bodies)
+  ready-recorded =
+      let small : b .atoms ≤ limits .atoms = r .within .atoms in
+      record {
+        clauses = b .clauses;
+        stands = stands-at (ap (λ (k : ℕ). k + 2) (sym e)) (r .shown .allClauses);
+        count = sym ready-count;
+        small =
+            λ c m.
+            let f = r .within .clausesFine c m in
+            record {
+              head = let h : c .head < b .atoms = f .known in omega arith;
+              body = λ l k. let h : l .atom < b .atoms = f .named l k in omega arith;
+            };
+        fits = r .within .bodies;
+      }
+
+  pub ready-clauses : clausesAt s (at + 2) count ≡ b .clauses
+  unfolding ready-recorded
+  ready-clauses = ap (clausesAt s (at + 2)) ready-count ∙ clauses-at s (at + 2) (b .clauses) (ready-recorded .stands)
