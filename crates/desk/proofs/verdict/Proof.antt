@@ -1,0 +1,30 @@
+-- `desk::verdict` is safe. Assumes nothing.
+use native.Mathlib.Omega.{arith}
+use lib.ListN.{length-take}
+use borrow.Author.Needs.{needs}
+use Rattle.desk.proofs.verdict.Statement.{statement}
+use Rattle.desk.proofs.verdict.Tie as tie
+
+pub verdict-spec : {M : Type 1} → statement M
+verdict-spec =
+    tie.close
+    (tie.spec
+    (λ c κs. search needs)
+    (λ c κs. search needs)
+    (λ c κs. search needs)
+    (λ c. search needs)
+    (λ c κs. search needs)
+    (λ c. search needs)
+    (λ c κs. search needs)
+    (λ c. search needs)
+    (λ c κs. search needs)
+    (λ c. search needs)
+    (λ c κs. search needs)
+    (λ c. search needs)
+    (λ c. search needs)
+    (λ c. simp length-take (omega arith))
+    (λ c. search needs)
+    (λ c. simp length-take (omega arith))
+    (λ c. search needs)
+    (λ c κs. search needs)
+    (λ c. search needs))

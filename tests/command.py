@@ -1,0 +1,399 @@
+"""Tries ./wizogbare as a new user would: every command, every sentence, every exit status.
+
+    python3 tests/command.py
+
+The programs `desk` and `listing` must be built. What building does is tried in a small checkout with a stand-in for `rt`, so
+nothing is proved here. Ends with status 1 if anything differs from what is written below.
+"""
+
+import contextlib
+import fcntl
+import itertools
+import json
+import os
+import shutil
+import subprocess
+import sys
+import tempfile
+from pathlib import Path
+
+import books
+from stored_read import longest
+
+HERE = Path(__file__).resolve().parent.parent
+COMMAND = (sys.executable, "-S", HERE / "wizogbare")
+EXAMPLE = "books/example"
+LISTED = "sets 2 nodes 15\n1: 0\n2: 1\n"
+NOBODY = ("setpriv", "--reuid=65534", "--regid=65534", "--clear-groups")
+
+tried = 0
+differences = []
+
+
+class Ran:
+    """How a command ended: its status, and what it wrote."""
+
+    def __init__(self, done):
+        self.status = done.returncode
+        self.out = (done.stdout or b"").decode()
+        self.err = (done.stderr or b"").decode()
+
+
+def run(*words, command=COMMAND, given=b"", **more):
+    """The command on these words, from the checkout's top."""
+    how = {"cwd": HERE, "input": given, "stdout": subprocess.PIPE, "stderr": subprocess.PIPE}
+    if "stdin" in more:
+        del how["input"]
+    return Ran(subprocess.run([*command, *words], **{**how, **more}))
+
+
+def shell(line):
+    """A line of sh, from the checkout's top."""
+    return run("-c", line, command=("sh",))
+
+
+def note(what, meets, ran):
+    global tried
+    tried += 1
+    if not meets:
+        differences.append(what)
+        print(f"DIFFERS: {what}: status {ran.status}\n{ran.out}{ran.err}")
+
+
+def answers(what, ran, out):
+    """The answer is exactly this, with status 0 and nothing on standard error."""
+    note(what, (ran.status, ran.out, ran.err) == (0, out, ""), ran)
+
+
+def record(what, ran, expected, status=0):
+    """The answer is this JSON object, and one line."""
+    note(what, ran.status == status and ran.out.count("\n") == 1 and json.loads(ran.out) == expected, ran)
+
+
+def is_sentence(ran, part):
+    return ran.err.startswith("wizogbare: ") and ran.err.count("\n") == 1 and part in ran.err
+
+
+def refuses(what, ran, out, part):
+    """A refusal: status 1, this line, and a sentence with its number and this part."""
+    number = out.split()[1]
+    note(what, ran.status == 1 and ran.out == out and is_sentence(ran, f"refused {number}: ") and part in ran.err, ran)
+
+
+def fails(what, ran, part):
+    """A fault of usage, files or output: status 2, no answer, and a sentence with this part."""
+    note(what, ran.status == 2 and ran.out == "" and is_sentence(ran, part), ran)
+
+
+def ordinary():
+    """What stands ahead of a command so that permissions bind it: root runs it as nobody. None where that cannot be."""
+    if os.getuid() != 0:
+        return ()
+    with contextlib.suppress(FileNotFoundError):
+        if run("-c", "", command=(*NOBODY, sys.executable)).status == 0:
+            return NOBODY
+    print("not tried: a file that may not be read, a checkout that cannot be written (root cannot run Python as nobody)")
+    return None
+
+
+# ---- answers
+
+def try_text():
+    answers("list", run("list", EXAMPLE), LISTED)
+    answers("list of the empty set", run("list", "-", given=books.P7), "sets 1 nodes 1\n1: none\n")
+    answers("list of nothing", run("list", "-", given=books.P10), "sets 0 nodes 6\n")
+    answers("list, budget just enough", run("list", EXAMPLE, "--budget", "15"), LISTED)
+    answers("list, options ahead", run("list", "--room", "2", EXAMPLE), LISTED)
+    answers("check", run("check", EXAMPLE), "accepted\n")
+    answers("judge", run("judge", EXAMPLE, "0"), "explains\n")
+    answers("judge, two members", run("judge", EXAMPLE, "0,1"), "explains\n")
+    answers("judge, goal", run("judge", EXAMPLE, "none"), "does not explain: goal literal 0 is false\n")
+    answers("judge, constraint", run("judge", EXAMPLE, "2"), "does not explain: constraint 0 does not hold\n")
+    answers("verdict possible", run("verdict", EXAMPLE, "0"), "possible nodes 15\n")
+    answers("verdict ruled out", run("verdict", EXAMPLE, "2"), "ruled out nodes 15\n")
+    answers("verdict needed", run("verdict", "-", "0", given=books.P8), "needed nodes 6\n")
+    answers("verdict unexplained", run("verdict", "-", "0", given=books.P10), "unexplained nodes 6\n")
+
+
+def try_json():
+    record("list --json", run("list", EXAMPLE, "--json"), {"answer": "listed", "sets": [[0], [1]], "nodes": 15})
+    record("check --json", run("check", EXAMPLE, "--json"), {"answer": "accepted"})
+    record("judge --json", run("judge", EXAMPLE, "0", "--json"), {"answer": "explains"})
+    goal, constraint = run("judge", EXAMPLE, "none", "--json"), run("judge", EXAMPLE, "2", "--json")
+    record("judge --json, goal", goal, {"answer": "does not explain", "false_goal": 0})
+    record("judge --json, constraint", constraint, {"answer": "does not explain", "broken_constraint": 0})
+    record("verdict --json", run("verdict", EXAMPLE, "2", "--json"), {"answer": "ruled out", "nodes": 15})
+    ran = run("list", EXAMPLE, "--budget", "14", "--json")
+    sentence = ran.err.removeprefix("wizogbare: refused 30: ").removesuffix("\n")
+    record("list --json, refused", ran, {"answer": "refused", "number": 30, "nodes": 14, "sentence": sentence}, 1)
+
+
+def try_listing():
+    """`list` prints what the specification's printing program does, on every book and on damaged ones."""
+    images = [path.read_bytes() for path in sorted((HERE / "books").iterdir()) if path.suffix != ".md"]
+    images += [damaged for _, damaged in books.REFUSED] + [longest(), longest("00"), longest("00" * 300)]
+    for place, each in enumerate(images):
+        printed = run(HERE / "target/bin/listing", command=(HERE / "tests/run",), given=each)
+        ran = run("list", "-", given=each)
+        note(f"list as the printing program, image {place}", ran.out == printed.out != "", ran)
+
+
+# ---- refusals
+
+def try_refusals():
+    for number, damaged in books.REFUSED:
+        for words in (["check", "-"], ["judge", "-", "0"]):
+            refuses(f"{words[0]}, {number}", run(*words, given=damaged), f"refused {number}\n", "")
+        for words in (["list", "-"], ["verdict", "-", "0"]):
+            refuses(f"{words[0]}, {number}", run(*words, given=damaged), f"refused {number} nodes 0\n", "")
+    refuses("room", run("list", EXAMPLE, "--room", "1025"), "refused 20 nodes 0\n", "try --room")
+    refuses("a very large room", run("list", EXAMPLE, "--room", "4294967295"), "refused 20 nodes 0\n", "try --room")
+    refuses("budget", run("list", EXAMPLE, "--budget", "1000001"), "refused 22 nodes 0\n", "1,000,001 nodes")
+    refuses("set", run("judge", EXAMPLE, "0,3"), "refused 23\n", "numbered from 0")
+    refuses("hypothesis", run("verdict", EXAMPLE, "4294967295"), "refused 23 nodes 0\n", "numbered from 0")
+    refuses("budget used up", run("list", EXAMPLE, "--budget", "14"), "refused 30 nodes 14\n", "budget of 14 nodes is")
+    refuses("verdict, budget", run("verdict", EXAMPLE, "0", "--budget", "0"), "refused 30 nodes 0\n", "try --budget")
+    refuses("room used up", run("list", EXAMPLE, "--room", "1"), "refused 31 nodes 10\n", "try --room")
+
+
+# ---- joining
+
+def many(count, start):
+    """A list of so many sets of 11 members, as it is printed, none inside another."""
+    sets = itertools.islice(itertools.combinations(range(22), 11), start, start + count)
+    return f"sets {count}\n" + "".join(f"{i}: {' '.join(map(str, each))}\n" for i, each in enumerate(sets, 1))
+
+
+def try_join(folder):
+    left, right, objects = folder / "left", folder / "right", folder / "objects"
+    left.write_text(LISTED)
+    right.write_text("sets 3 nodes 9\n1: 2\n2: 0 3\n3: 1 63\n")
+    objects.write_bytes(run("list", EXAMPLE, "--json").out.encode())
+    joined = "sets 3\n1: 0\n2: 1\n3: 2\n"
+    answers("join", run("join", left, right), joined)
+    answers("join, an object", run("join", objects, right), joined)
+    answers("join, standard input", run("join", "-", right, given=LISTED.encode()), joined)
+    answers("join, standard input second", run("join", right, "-", given=joined.encode()), joined)
+    answers("join with the empty set", run("join", left, "-", given=b"sets 1\n1: none\n"), "sets 1\n1: none\n")
+    answers("join of nothing", run("join", "-", left, given=b"sets 0 nodes 4\n"), "sets 2\n1: 0\n2: 1\n")
+    record("join --json", run("join", left, right, "--json"), {"answer": "joined", "sets": [[0], [1], [2]]})
+    refuses("join, room", run("join", left, right, "--room", "2"), "refused 31\n", "room of 2 ")
+    fails("join, both standard input", run("join", "-", "-"), "not both")
+    fails("join, one file", run("join", left), "required: FILE")
+    fails("join, three files", run("join", left, right, left), "takes two files")
+    fails("join, no file", run("join", left, folder / "none"), "no such file")
+    fails("join, a folder", run("join", left, folder), "folder")
+
+
+def try_long_lists(folder):
+    first, second = folder / "first", folder / "second"
+    first.write_text(many(512, 0))
+    second.write_text(many(512, 512))
+    note("join, 1,024 sets", run("join", first, second).out.startswith("sets 1024\n"), run("join", first, second))
+    second.write_text(many(513, 512))
+    refuses("join, 1,025 sets", run("join", first, second), "refused 31\n", "room of 1,024 ")
+    second.write_text(many(1025, 0))
+    refuses("join, a list too long", run("join", first, second), "refused 20\n", "at most 1,024 sets")
+
+
+NO_LISTS = [
+    b"", b"\n", b"\xff\n", b"refused 30 nodes 5\n",
+    b"sets 2\n1: 0\n", b"sets 1\n2: 0\n", b"sets 1\n1:\n", b"sets 1\n1: 0", b"sets 1\n1: 0\n\n",
+    b"sets 1\n1: 64\n", b"sets 1\n1: " + b"9" * 5000 + b"\n",
+    b"{", b"{}", b"[[0]]", b'{"sets": ' + b"[" * 100000, b'{"answer": "refused", "number": 30}',
+    b'{"sets": [[64]]}', b'{"sets": [["0"]]}', b'{"sets": [[true]]}',
+]
+
+
+def try_no_lists(folder):
+    left = folder / "left"
+    for wrong in NO_LISTS:
+        fails(f"join, no list {wrong[:20]}", run("join", left, "-", given=wrong), "no list of sets")
+
+
+# ---- usage
+
+def try_usage():
+    answers("--version", run("--version"), f"wizogbare {(HERE / 'VERSION').read_text()}")
+    for words in ([], ["list"], ["check"], ["judge"], ["verdict"], ["join"]):
+        ran = run(*words, "--help")
+        note(f"help {words}", ran.status == 0 and ran.out.startswith("usage: ./wizogbare") and ran.err == "", ran)
+    fails("no command", run(), "COMMAND")
+    fails("another command", run("frob", EXAMPLE), "invalid choice")
+    fails("no file", run("list"), "required: FILE")
+    fails("no set", run("judge", EXAMPLE), "required: SET")
+    fails("a second file", run("list", EXAMPLE, "books/kelp"), "list takes one file, and `books/kelp` is too much")
+    fails("a second file of check", run("check", EXAMPLE, "books/kelp"), "check takes one file")
+    fails("a second set", run("judge", EXAMPLE, "0", "1"), "judge takes one file and one set")
+    fails("a second hypothesis", run("verdict", EXAMPLE, "0", "1"), "verdict takes one file and one hypothesis")
+    fails("another option", run("list", EXAMPLE, "--fast"), "list has no option --fast")
+    fails("half an option", run("list", EXAMPLE, "--bud", "5"), "list has no option --bud")
+    for wrong in ("x", "-1", "", "1e3", "4294967296", "9" * 5000):
+        fails(f"budget {wrong[:12]}", run("list", EXAMPLE, f"--budget={wrong}"), "is no number from 0")
+        fails(f"hypothesis {wrong[:12]}", run("verdict", EXAMPLE, wrong), "is no number from 0")
+    for wrong in ("x", "", "0,", "0 1", "all", "-1"):
+        fails(f"set {wrong}", run("judge", EXAMPLE, wrong), "is no set")
+    fails("set with 64", run("judge", EXAMPLE, "0,64"), "64 is no abducible")
+
+
+# ---- files and output
+
+def try_files(folder):
+    answers("standard input", run("list", "-", given=books.P1), LISTED)
+    answers("standard input from a pipe", shell(f"cat {EXAMPLE} | ./wizogbare list -"), LISTED)
+    answers("a name with blanks", run("list", shutil.copy(HERE / EXAMPLE, folder / "a b")), LISTED)
+    answers("from another folder", run("list", HERE / EXAMPLE, cwd=folder), LISTED)
+    fails("a folder", run("list", "books"), "books: this is a folder")
+    fails("no such file", run("list", "books/none"), "books/none: there is no such file")
+    fails("an empty name", run("list", ""), "no such file")
+    fails("a file below a file", run("list", "books/example/x"), "Not a directory")
+    fails("standard input closed", shell("./wizogbare list - <&-"), "standard input is closed")
+    fails("not to be read", run("list", "/proc/self/mem"), "this cannot be read")
+
+
+def try_permissions(folder, checkout, ahead):
+    """Before anything is built in the checkout."""
+    unreadable = folder / "unreadable"
+    unreadable.write_bytes(books.P1)
+    unreadable.chmod(0)
+    checkout.folder.chmod(0o555)
+    fails("unreadable", run("list", unreadable, command=(*ahead, *COMMAND)), "may not be read")
+    fails("not to be written", checkout.run(ahead=ahead), "cannot be written")
+    checkout.folder.chmod(0o755)
+
+
+def closed_pipe():
+    """The end for writing of a pipe that nobody reads."""
+    reading, writing = os.pipe()
+    os.close(reading)
+    return writing
+
+
+def try_output():
+    for line in (f"list {EXAMPLE}", f"check {EXAMPLE} --json", f"list {EXAMPLE} --budget 1", "--help", "--version"):
+        fails(f"full: {line}", shell(f"./wizogbare {line} >/dev/full"), "standard output cannot be written")
+        fails(f"closed: {line}", shell(f"./wizogbare {line} >&-"), "standard output")
+        ran = run(*line.split(), stdout=closed_pipe())
+        note(f"closed pipe: {line}", ran.status == 2 and ran.err == "", ran)
+    ran = shell(f"./wizogbare list {EXAMPLE} --budget 1 2>/dev/full")
+    note("full standard error", ran.status == 1 and ran.out == "refused 30 nodes 1\n", ran)
+
+
+# ---- building
+
+STAND_IN = """#!/bin/sh
+if [ "$1" = version ]; then echo "$STAND_IN_VERSION"; exit; fi
+[ "$*" = "check desk" ] || exit 9
+echo "rt: base proved (unchanged since it was last proved)"
+if [ -n "$STAND_IN_FAILS" ]; then echo "rt: desk NOT PROVED (exit 1, 3 s)"; echo "rt: FAILED: desk"; exit 1; fi
+echo "fn desk::main: proved"
+echo "rt: desk proved (3 s)"
+mkdir -p target/bin && cp "$STAND_IN_DESK" target/bin/desk
+"""
+
+
+class Checkout:
+    """A small checkout with two crates and nothing built, and a stand-in for `rt`."""
+
+    def __init__(self, folder):
+        self.folder = folder
+        self.tools = folder / "tools"
+        for below in ("crates/base/src", "crates/desk/src", "tests", "tools"):
+            (folder / below).mkdir(parents=True)
+        for file in ("wizogbare", "VERSION", "TOOLCHAIN", "tests/run"):
+            shutil.copy(HERE / file, folder / file)
+        (folder / "crates.txt").write_text("base:\ndesk: base os io libc   # the program\n")
+        (folder / "crates/base/src/lib.rt").write_text("")
+        (folder / "book").write_bytes(books.P1)
+        (self.tools / "rt").write_text(STAND_IN)
+        (self.tools / "rt").chmod(0o755)
+        self.version = (HERE / "TOOLCHAIN").read_text().strip()
+
+    def environment(self, **changed):
+        return {**os.environ, "PATH": f"{self.tools}:{os.environ['PATH']}", "STAND_IN_VERSION": self.version,
+                "STAND_IN_DESK": str(HERE / "target/bin/desk"), **changed}
+
+    def run(self, *words, ahead=(), **changed):
+        """`list` on the example in this checkout, with these changes to the environment."""
+        command = (*ahead, sys.executable, "-S", self.folder / "wizogbare")
+        return run("list", "book", *words, command=command, cwd=self.folder, env=self.environment(**changed))
+
+
+def try_faults_of_building(checkout):
+    fails("no rt", checkout.run(PATH="/nowhere"), "`rt` is not on the PATH")
+    fails("another toolchain", checkout.run(STAND_IN_VERSION="kit-9 logic 00"), "--any-toolchain")
+    ran = checkout.run(STAND_IN_FAILS="yes")
+    said = "the build failed (rt: FAILED: desk): target/log/wizogbare.log"
+    note("a failed build", (ran.status, ran.out) == (2, "") and said in ran.err, ran)
+    log = (checkout.folder / "target/log/wizogbare.log").read_text()
+    note("its log", "desk NOT PROVED" in log, ran)
+
+
+def built(what, ran, said):
+    """The answer is the example's, and standard error has this first line and one for the crate that was proved."""
+    first, *more = ran.err.splitlines()
+    progress = ["wizogbare:   2 of 2: desk proved (3 s)"]
+    note(what, (ran.status, ran.out) == (0, LISTED) and said in first and more == progress, ran)
+
+
+def try_building(checkout):
+    built("the first build", checkout.run(), "the first build proves everything and takes some minutes")
+    answers("nothing to build", checkout.run(PATH="/usr/bin:/bin"), LISTED)
+    source = checkout.folder / "crates/base/src/lib.rt"
+    source.write_text("// edited\n")
+    built("an edited source", checkout.run(), "the sources are newer")
+    answers("nothing to build again", checkout.run(), LISTED)
+    source.unlink()
+    built("a source taken away", checkout.run(), "the sources are newer")
+    (checkout.folder / "crates/other").mkdir()
+    answers("a crate that is no part of it", checkout.run(), LISTED)
+    (checkout.folder / "crates.txt").touch()
+    ran = checkout.run("--any-toolchain", STAND_IN_VERSION="kit-9 logic 00")
+    note("--any-toolchain", ran.status == 0 and ran.out == LISTED and "kit-9" in ran.err, ran)
+
+
+def try_two_builds(checkout):
+    """The lock is held here, as by another build, until the command says that it waits."""
+    (checkout.folder / "crates.txt").touch()
+    with open(checkout.folder / "target/wizogbare.lock", "w") as lock:
+        fcntl.flock(lock, fcntl.LOCK_EX)
+        waiting = subprocess.Popen([sys.executable, checkout.folder / "wizogbare", "list", "book"], cwd=checkout.folder,
+                                   env=checkout.environment(), stdout=subprocess.PIPE, stderr=subprocess.PIPE)
+        first = waiting.stderr.readline()
+    out, err = waiting.communicate()
+    ran = Ran(subprocess.CompletedProcess((), waiting.returncode, out, err))
+    note("two builds", (ran.status, ran.out) == (0, LISTED) and b"another build is under way" in first, ran)
+
+
+def try_old_python():
+    pretend = "import runpy, sys; sys.version_info = (3, 9, 1); runpy.run_path('wizogbare', run_name='__main__')"
+    ran = run(command=(sys.executable, "-c", pretend))
+    fails("an old Python", ran, "this needs Python 3.10 or later, and this is Python 3.9")
+
+
+def main():
+    for program in ("desk", "listing"):
+        if not (HERE / "target/bin" / program).exists():
+            sys.exit(f"target/bin/{program} is not built: rt check desk listing")
+    with tempfile.TemporaryDirectory() as name:
+        folder = Path(name)
+        folder.chmod(0o755)
+        for attempt in (try_text, try_json, try_listing, try_refusals, try_usage, try_output, try_old_python):
+            attempt()
+        for attempt in (try_join, try_long_lists, try_no_lists, try_files):
+            attempt(folder)
+        checkout = Checkout(folder / "checkout")
+        ahead = ordinary()
+        if ahead is not None:
+            try_permissions(folder, checkout, ahead)
+        try_faults_of_building(checkout)
+        try_building(checkout)
+        try_two_builds(checkout)
+        if ahead is not None:
+            answers("built, and not to be written", checkout.run(ahead=ahead), LISTED)
+    print(f"command: {tried} tried, {len(differences)} differ")
+    sys.exit(1 if differences else 0)
+
+
+if __name__ == "__main__":
+    main()
