@@ -104,7 +104,7 @@ def row(letter, count):
     return " ".join(names(letter, count))
 
 
-# The programs of document 003, section 6, each of a size n.
+# The programs of the article's section 6 (paper 003, 7), each of a size n.
 
 def b01(n):
     """A chain of n predicates, each with an abducible of its own."""

@@ -2,8 +2,8 @@
 
 Shares no code with the engine. DEEPEST, FULLEST and MOST_OPEN were chosen to fill
 the longest path, the marks and the frames; the others come from the specification alone.
-The books of P5 and P6 are examples 5 and 6 of the document that the
-specification names for its meaning.
+The books of P5 and P6 are examples 5 and 6 of the article that the
+specification names for its meaning (paper 003, 6).
 """
 
 from notation import image, raw, rest

@@ -1,5 +1,5 @@
 -- The work area's layout, in numbers of 32 bits: where each table begins, and how wide an entry of it is. Each begins where the one
--- before it ends, by the limits of document 01; that all of it fits is `fits`.
+-- before it ends, by the limits of paper 01, 3.4; that all of it fits is `fits`.
 -- Assumes nothing.
 use Prim.Native.Nat.{ℕ, _+_, _*_, _≤_}
 use native.Mathlib.Omega.{arith}
@@ -10,7 +10,7 @@ use Rattle.area.specs.paper.Work.{workNumbers}
 
 -- ---- what the numbers of the area say
 
--- a literal's number is below this: twice its atom, plus 1 if negated
+-- a literal's number is below this: "twice its atom's number, and one more if it is negated" (paper 01, 3.2)
 abbrev pub literalNumbers : ℕ
 literalNumbers = 2 * limits .atoms
 

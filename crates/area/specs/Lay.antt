@@ -167,7 +167,7 @@ listed-same image tab tab′ (Listed.single h) = Listed.single h
 listed-same image tab tab′ Listed.none = Listed.none
 listed-same image tab tab′ (Listed.part h n f) = Listed.part h n f
 
--- "The longest image has 8,751 bytes."
+-- "No accepted image is longer than 8,751 bytes" (paper 01, 3.5).
 abbrev pub Short : List ℕ → Type 0
 Short image = length image ≤ longestImage
 

@@ -81,7 +81,7 @@ pub const MOST_FRAMES: usize = MOST_CONSTRAINTS as usize
 
 pub const FRAMES: usize = TRAIL + TRAIL_WIDTH * MOST_ATOMS as usize;
 
-// "work area shorter than 16,384 numbers of 32 bits"
+// 21: "the work area has fewer than 16,384 numbers of 32 bits" (paper 01, 8.1)
 pub const END: usize = 16384;
 
 // Zeros in the first n numbers.

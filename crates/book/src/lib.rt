@@ -1,4 +1,4 @@
-// The rule book's reader: document 01, "The book's image" and "Refusal numbers" 1 to 9. It keeps nothing: the floors above
+// The rule book's reader: paper 01, 3 and 4. It keeps nothing: the floors above
 // work on the image as lent, and crate image says where in it each part of an accepted book stands.
 
 use faults::fields::Taken;

@@ -43,7 +43,7 @@ use Rattle.engine.specs.declared.Verdict.{Verdict}
 use Rattle.engine.specs.declared.Verdict.the-variants as verdict
 use Rattle.area.specs.paper.Work.{workNumbers}
 
--- the last of document 01's refusal numbers
+-- the last refusal number of paper 01
 abbrev pub lastNumber : ℕ
 lastNumber = 31
 

@@ -1,4 +1,4 @@
-// The engine's face: document 01's calls on a rule book, each with its promise. No call has a `requires`: on all bytes and numbers
+// The engine's face: the calls of paper 01 on a rule book, each with its promise. No call has a `requires`: on all bytes and numbers
 // it ends with an answer or a numbered refusal. The promises stand in specs/paper of the crates that keep them. The reader is `book::read`.
 
 use image::front;
@@ -22,8 +22,8 @@ pub enum Verdict {
     Refused(u8, u32),
 }
 
-// Whether the set explains; or the place of the first false goal literal, or failing that of the first constraint that does not
-// hold; or 1 to 9, 23.
+// Whether the set explains; or where it fails: the place of the first goal literal that is false, or with all of them true of the first
+// constraint that is broken; or 1 to 9, 23.
 pub fn judge(image: &[u8], set: u64) -> Judgement
     ensures { λ r. ⌜ Judges (now (image .entry)) set r ⌝ }
 {
@@ -63,7 +63,7 @@ pub fn verdict_on(
     }
 }
 
-// The sets of either list with no proper subset among them, once each, in order, at the front of `out`, then zeros; or 20, 31.
+// Each set of the two lists of which neither list has a proper subset, one time, in order, at the front of `out`, then zeros; or 20, 31.
 pub fn join(left: &[u64], right: &[u64], out: &mut [u64]) -> Joined
     ensures { λ r. ⌜ Joins (now (left .entry)) (now (right .entry)) (now (out .entry)) r (now (out .exit)) ⌝ }
 {

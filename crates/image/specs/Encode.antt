@@ -220,7 +220,7 @@ encode-decode s b bytes e =
     (drop-cons s 3 0 (omega arith)
     ∙ ap₂ _∷_ e₃ (drop-cons s 4 0 (omega arith) ∙ ap₂ _∷_ e₄ (unstands s bytes atomsAt (words b) (w .stands) over))))))
 
--- "The longest image has 8,751 bytes."
+-- "No accepted image is longer than 8,751 bytes" (paper 01, 3.5).
 abbrev pub longestImage : ℕ
 longestImage = atomsAt + 2 * mostWords
 

@@ -1,4 +1,4 @@
--- The numbers under which an image is refused: document 01's, from 1 to 9.
+-- The numbers under which an image is refused: those of paper 01, 4.1, from 1 to 9.
 -- Assumes nothing.
 use Prim.Native.Nat.{ℕ, zero, suc, _+_, _-_, _*_, _/_, _%_, _≤_}
 use mathlib.Core.Path.{_≡_, subst}

@@ -1,4 +1,4 @@
--- What an accepted book has beyond its data: refusals 6 to 9 of document 01, each turned round.
+-- What an accepted book has beyond its data: refusals 6 to 9 of paper 01, 4.1, each turned round.
 -- Assumes nothing.
 use Prim.Native.Nat.{ℕ, _<_, _≤_}
 use mathlib.Core.Path.{_≡_}
@@ -17,7 +17,7 @@ Known b ls = Every (λ (l : Lit). l .atom < b .atoms) ls
 pub record Orderly (b : Book) : Type 0 where
   -- the abducibles are atoms
   pub assumable : b .abducibles ≤ b .atoms
-  -- no literal and no head names an atom of A or above (6)
+  -- the atom of each literal, and each head, is below A (6)
   pub goal-known : Known b (b .goal)
   pub heads-known : Every (λ (c : Clause). c .head < b .atoms) (b .clauses)
   pub bodies-known : Every (λ (c : Clause). Known b (c .body)) (b .clauses)

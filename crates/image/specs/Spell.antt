@@ -1,4 +1,4 @@
--- How a book is written: each of its parts as field values, in the order of document 01, "The book's image", and the whole
+-- How a book is written: each of its parts as field values, in the order of paper 01, 3.3, and the whole
 -- image as bytes. `Stands` says that field values stand in an image from a place on.
 -- Assumes nothing.
 use Prim.Native.Nat.{ℕ, _+_, _*_, _/_, _%_, _≤_}
@@ -41,7 +41,7 @@ words b = b .atoms ∷ b .abducibles ∷ (ofAlternative (b .goal) ++ ofBoth (b .
 abbrev pub two : ℕ → List ℕ
 two x = x / byteValues % byteValues ∷ x % byteValues ∷ []
 
--- "One version byte, 1, at the front; then the length of the rest, four bytes; then two-byte fields."
+-- "The first byte is the version, 1. The next four are the number of bytes behind them. Two-byte fields make up the rest."
 unfoldable pub encode : Book → List ℕ
 encode b = version ∷ two (2 * length (words b) / fieldValues) ++ two (2 * length (words b) % fieldValues) ++ flat two (words b)
 

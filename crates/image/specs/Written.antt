@@ -24,7 +24,7 @@ use Rattle.image.specs.StandsLaws.{stands-at, stands-join, stands-left, 
 use Rattle.image.specs.Finds.{Read, Finds, after-found, Named, finds-literals, Ran, ran-length, ran-every, ran-sum, every-ran, finds-running, ClauseFine, ClauseFits, finds-clause, ConstraintFine, ConstraintFits, finds-constraint}
 use Rattle.image.specs.paper.Front.{atomsAt, version, versionAt}
 
--- every limit of document 01, and what the walk asks of each literal, head and alternative
+-- every limit of paper 01, 3.4, and what the walk asks of each literal, head and alternative
 pub record Within (most : Limits) (b : Book) : Type 0 where
   pub some : 1 ≤ b .atoms
   pub atoms : b .atoms ≤ most .atoms

@@ -1,4 +1,4 @@
--- What must be believed, in document 01's order: what a book is, where its image begins, the walk over the image, the faults of its
+-- What must be believed, paper 01, 2 to 4: what a book is, where its image begins, the walk over the image, the faults of its
 -- fields, what depends on itself, and what an image says.
 pub mod Book
 pub mod Front

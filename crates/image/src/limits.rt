@@ -1,4 +1,4 @@
-// The limits of document 01, as specs/paper/Faults has them.
+// The limits of paper 01, 3.4, as specs/paper/Faults has them.
 
 use super::front::ATOMS;
 

@@ -12,7 +12,7 @@ pub enum Joined {
     Refused(u8),
 }
 
-// Leaves in `out` the sets of either list with no proper subset among them, once each, in order, then zeros.
+// Leaves in `out` each set of the two lists of which neither list has a proper subset, one time, in order, then zeros.
 pub fn join(left: &[u64], right: &[u64], out: &mut [u64]) -> Joined
     ensures { λ r. ⌜ Joins (now (left .entry)) (now (right .entry)) (now (out .entry)) r (now (out .exit)) ⌝ }
 {

@@ -1,5 +1,5 @@
--- The judge's answers to the book that document 01 prints, under "The printing program", from the definitions: fish 0, rock 1,
--- bubbles 2, spike 3, wake 4; spike from any of the three; bubbles need a wake, and none was seen.
+-- The judge's answers to the example image of paper 01, 9.3, from the definitions: fish 0, rock 1, bubbles 2, spike 3, wake 4; the spike
+-- comes from each of the first three; with bubbles there is a wake, and there is none.
 -- Assumes nothing.
 use Prim.Native.Nat.{ℕ}
 use mathlib.Core.Path.{_≡_, refl}

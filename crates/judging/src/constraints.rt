@@ -34,8 +34,8 @@ fn some_way(image: &[u8], set: u64, memo: &mut [u8; NOTES], start: usize, end: u
     false
 }
 
-// Whether the constraint whose record starts at this place holds: a condition literal is false, or some alternative has all
-// literals true.
+// Whether the constraint whose record starts at this place holds: one of its conditions is false, or all literals of one of its
+// alternatives are true.
 fn holds(image: &[u8], set: u64, memo: &mut [u8; NOTES], place: usize) -> bool
     requires { ⌜ IsBook (now image) ⌝ }
     requires { ⌜ Noted (bookIn (now image)) set (now memo) ⌝ }
@@ -53,7 +53,7 @@ fn holds(image: &[u8], set: u64, memo: &mut [u8; NOTES], place: usize) -> bool
     some_way(image, set, memo, ways, end)
 }
 
-// The place of the first constraint that does not hold; where all hold, their number. They are counted at `counted`.
+// The place of the first constraint that is broken; where all hold, their number. They are counted at `counted`.
 pub fn first_broken(image: &[u8], set: u64, memo: &mut [u8; NOTES], counted: usize) -> usize
     requires { ⌜ IsBook (now image) ⌝ }
     requires { ⌜ Noted (bookIn (now image)) set (now memo) ⌝ }

@@ -1,4 +1,4 @@
-// The judge: document 01, "Judge, verdict, joiner". It works on the image as lent; the meaning is crate meaning's.
+// The judge: paper 01, 6. It works on the lent image itself; the meaning is crate meaning's.
 
 pub mod constraints;
 pub mod values;
@@ -56,8 +56,8 @@ fn judge_accepted(image: &[u8], set: u64) -> Judgement
     Judgement::Explains
 }
 
-// Explains; or the place of the first false goal literal; or, failing that, of the first constraint that does not hold; or
-// the number under which the image or the set is refused.
+// Explains; or where it fails: the place of the first goal literal that is false, or with all of them true of the first constraint that is
+// broken; or the number under which the image or the set is refused.
 pub fn judge(image: &[u8], set: u64) -> Judgement
     ensures { λ r. ⌜ Judges (now (image .entry)) set r ⌝ }
 {

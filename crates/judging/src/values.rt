@@ -50,8 +50,8 @@ fn walk(part: &[u8], at: usize) -> Met
     Met::End
 }
 
-// An atom's value: noted already; or, of an abducible, whether it is in the set; or whether some clause for it has every body
-// literal true, each of whose atoms is valued the same way.
+// An atom's value: noted already; or, of an abducible, whether it is in the set; or whether it has a clause all of whose body literals are
+// true, where each body atom's value is worked out in the same way.
 fn value(image: &[u8], set: u64, memo: &mut [u8; NOTES], atom: u32) -> bool
     requires { ⌜ IsBook (now image) ⌝ }
     requires { ⌜ Noted (bookIn (now image)) set (now memo) ⌝ }

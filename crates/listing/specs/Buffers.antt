@@ -1,4 +1,4 @@
--- The program's own buffers: document 01, "The printing program".
+-- The program's own buffers: paper 01, 9.1.
 -- Assumes nothing.
 use Prim.Native.Nat.{ℕ, _+_}
 use Rattle.image.specs.Encode.{longestImage}

@@ -1,5 +1,5 @@
-// Document 01's printing program: lists the smallest explanations of the book whose image stands on standard input, of which it
-// takes at most the first 8,752 bytes, one more than the longest image has.
+// The printing program of paper 01, 9: lists the smallest explanations of the book whose image stands on standard input. It takes 8,752
+// bytes of that at most, one more than the longest image has.
 use area::END;
 use engine::Listing;
 use image::limits::LONGEST_IMAGE;

@@ -1,4 +1,4 @@
-// The search: document 01's search rules as a machine that runs on the tables and the image. The kept sets stand in the front of the lent
+// The search: the rules of paper 01, 7 as a machine that runs on the tables and the image. The kept sets stand in the front of the lent
 // list, all else in the lent work area (area has the layout).
 mod start;
 mod steps;

@@ -1,4 +1,4 @@
--- On a book without loops Fung and Kowalski's meaning is document 01's: the completion has one three-valued model, in which every
+-- On a book without loops Fung and Kowalski's meaning is that of paper 01, 5: the completion has one three-valued model, in which every
 -- atom has its value, so that goal and constraints are entailed exactly if the set explains.
 -- Assumes nothing.
 use Prim.Native.Nat.{ℕ}

@@ -1,1 +1,1 @@
-// What a set of assumptions explains: document 01, "Meaning". Specs alone; the judge is crate judging.
+// What a set of assumptions explains: paper 01, 5. Specs alone; the judge is crate judging.

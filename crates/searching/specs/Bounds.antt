@@ -225,7 +225,7 @@ root-frames b =
       clauses-once (b .atoms) (b .clauses),
     )
 
--- With document 01's limits no path from the root has more than 2,704 steps, of which no more than 896 must be held.
+-- With the limits of paper 01, 3.4 no path from the root has more than 2,704 steps, of which no more than 896 must be held.
 pub path-bound : (b : Book) → Orderly b → b .atoms ≤ 256 → length (b .goal) ≤ 16 → length (b .clauses) ≤ 512 → sum (λ (c : Clause). length (c .body)) (b .clauses) ≤ 1024
     → length (b .constraints) ≤ 128 → sum literals (b .constraints) ≤ 1024 → {x : Node} {k h : ℕ} → Down b (root b) k h x → (k ≤ 2704) × (h ≤ 896)
 path-bound b o a g c l k m d =

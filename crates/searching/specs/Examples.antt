@@ -1,4 +1,4 @@
--- Document 01, "Soundings with known depth", P1 to P11: from image bytes to answer, node number and sets, by the definitions.
+-- The known depths of paper 01, 10, P1 to P11: from image bytes to answer, node number and sets, by the definitions.
 -- Assumes nothing.
 use Prim.Native.Nat.{ℕ, zero, suc, _/_, _%_}
 use mathlib.Core.Path.{_≡_, refl}
@@ -46,15 +46,16 @@ pub record Sounding : Type 0 where
 abbrev pub sounding : ℕ → ℕ → ℕ → Outcome → Sounding
 sounding image budget room o = record { image = image; budget = budget; room = room; depth = o }
 
--- P1: fish 0, rock 1, bubbles 2, spike 3, wake 4; spike from any of the three; bubbles need a wake, and none was seen
+-- P1: fish 0, rock 1, bubbles 2, spike 3, wake 4; the spike comes from each of the first three; with bubbles there is a wake, and there
+-- is none
 abbrev pub spike : ℕ
 spike = 0x01_00000028_0005_0003_0001_0006_0003_0004_0003_0000_0004_0003_0002_0004_0003_0004_0001_0008_0001_0004_0001_0008
 
--- P5: document 003, example 5: rain 0, sprinkler 1, cloudy 2, wet grass 3
+-- P5: example 5 of paper 003, 6: rain 0, sprinkler 1, cloudy 2, wet grass 3
 abbrev grass : ℕ
 grass = 0x01_00000028_0004_0003_0001_0006_0002_0004_0003_0000_0004_0003_0002_0002_0008_0001_0000_0001_0004_0004_0001_0004
 
--- P6: document 003, example 6: a 0, b 1, p 2, q 3, r 4
+-- P6: example 6 of paper 003, 6: a 0, b 1, p 2, q 3, r 4
 abbrev negations : ℕ
 negations = 0x01_00000024_0005_0002_0001_0004_0004_0004_0002_0007_0004_0003_0009_0004_0004_0000_0004_0004_0002_0000
 

@@ -191,7 +191,7 @@ module _ (b : Book) (room budget : ℕ) (start : Node) where
       back : (i < size b start) × (i < budget) × Fits b room start i × (room < length (kept-at b start (suc i))) → run-from b room budget start ≡ no-room (suc i)
       back w = says-unique b room budget start (says b room budget start) (fills-up i (w .0) (w .1) (w .2) (w .3) refl)
 
-  -- A finished search is the same, node number included, under any larger budget and room.
+  -- No larger budget and no larger room changes a finished search, neither list nor node number (paper 02, A11.2).
   pub finished-larger : (room′ budget′ : ℕ) → room ≤ room′ → budget ≤ budget′ → (kept : List ℕ) (n : ℕ)
       → run-from b room budget start ≡ finished kept n → run-from b room′ budget′ start ≡ finished kept n
   finished-larger room′ budget′ p q kept n e =

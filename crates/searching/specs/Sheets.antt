@@ -1,5 +1,6 @@
--- Accepted sheets: the atoms held true and those held false that certify an explanation by themselves. The abducibles held true on an
--- accepted sheet explain, and every explaining set has an accepted sheet of exactly its own abducibles held true.
+-- Accepted sheets (paper 02, A9): atoms held true and atoms held false that certify an explanation by themselves. "If a sheet is
+-- accepted, the abducibles of its true side explain." "For each explaining set there is an accepted sheet whose true side has its
+-- members."
 -- Assumes nothing.
 use Prim.Native.Nat.{ℕ, zero, suc, _%_, _^_, _<_}
 use native.Mathlib.Nat.{zero-div}
@@ -31,15 +32,15 @@ abbrev pub side : ℕ → Bool → Lit
 side p t = record { atom = p; sign = t }
 
 pub record Accepted (b : Book) (s : List Lit) : Type 0 where
-  -- no atom is in both
+  -- "No atom stands on both sides."
   pub apart : (p : ℕ) → side p true ∈ s → side p false ∈ s → ⊥
-  -- each goal literal sits on its right side
+  -- "All goal literals sit right."
   pub goal : Every (On s) (b .goal)
-  -- each defined atom on the true sheet has a clause whose literals all sit right
+  -- "To each defined atom on the true side belongs a clause with all body literals sitting right."
   pub held-true : (p : ℕ) → abducible b p ≡ false → side p true ∈ s → Some (λ (c : Clause). Every (On s) (c .body)) (clausesFor b p)
-  -- each clause of a defined atom on the false sheet has a literal sitting opposite
+  -- "In each clause of each defined atom on the false side some body literal sits opposite."
   pub held-false : (p : ℕ) → abducible b p ≡ false → side p false ∈ s → Every (λ (c : Clause). Some (λ (l : Lit). opposite l ∈ s) (c .body)) (clausesFor b p)
-  -- each constraint has a condition literal sitting opposite or an alternative sitting right
+  -- "In each constraint some condition sits opposite, or all literals of some alternative sit right."
   pub constraints : Every (λ (k : Constraint). Some (λ (l : Lit). opposite l ∈ s) (k .conditions) ⊎ Some (Every (On s)) (k .alternatives)) (b .constraints)
 
 bit : (t : Bool) → choose t 1 0 < 2
@@ -130,7 +131,7 @@ module _ (b : Book) (o : Orderly b) where
   own-in d l h e =
       subst (λ (t : Bool). side (l .atom) t ∈ own-sheet b d) e (∈-map (λ (p : ℕ). side p (value b d p)) (below-in (b .atoms) (l .atom) h))
 
-  -- Every explaining set has an accepted sheet
+  -- For each explaining set there is an accepted sheet
   pub own-accepted : (d : ℕ) → explains b d ≡ true → Accepted b (own-sheet b d)
   own-accepted d e = record {
     apart = λ p m n. clash (own-right d (side p true) m) (own-right d (side p false) n);
@@ -150,7 +151,7 @@ module _ (b : Book) (o : Orderly b) where
       held k m (inl w) = inl (w .0, w .1, own-in d (opposite (w .0)) (o .conditions-known k m (w .0) (w .1)) (w .2))
       held k m (inr w) = inr (w .0, w .1, λ l n. own-in d l (o .alternatives-known k m (w .0) (w .1) l n) (w .2 l n))
 
-  -- of exactly its own abducibles held true.
+  -- whose true side has its members, and no other abducible.
   pub own-assumed : (d : ℕ) → ((j : ℕ) → has d j ≡ true → j < b .abducibles) → assumed b (own-sheet b d) ≡ d
   own-assumed d h = same-members (assumed b (own-sheet b d)) d (λ j. has-assumed b (own-sheet b d) j ∙ same-test (to j) (back j))
     where

@@ -257,7 +257,7 @@ sooner-total a b p q = go (decide (ltb (ones a) (ones b))) (decide (ltb (ones b)
     go (inr l) (inr m) (inr s) (inl t) = no q (inr (omega (arith, ltb-false, ltb-true)))
     go (inr l) (inr m) (inr s) (inr t) = omega (arith, ltb-false)
 
--- document 01's example: {2} before {0,1}
+-- the example of paper 01, 5.6: {2} before {0,1}
 two-before-zero-one : sooner (2 ^ 2) (2 ^ 0 + 2 ^ 1) ≡ true
 unfolding ones
 two-before-zero-one = refl

@@ -6,7 +6,7 @@ use Rattle.base.specs.paper.Bools.{choose}
 use Rattle.base.specs.paper.Lists.{any, filter}
 
 module _ {ℓ} {A : Type ℓ} (inside : A → A → Bool) where
-  -- If a kept one is inside s, nothing changes. Otherwise those that contain s are dropped and s joins.
+  -- Where some kept one lies inside s, all stays as it is. Else each kept one that s lies inside goes, and s is kept.
   unfoldable pub insert : List A → A → List A
   insert kept s = choose (any (λ k. inside k s) kept) kept (filter (λ k. not (inside s k)) kept ++ s ∷ [])
 

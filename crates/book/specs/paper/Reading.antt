@@ -1,4 +1,4 @@
--- The reader's promise: the answer is `accepted`, or the number under which document 01 refuses the image.
+-- The reader's promise: the answer is `accepted`, or the number under which paper 01, 4 refuses the image.
 -- Assumes nothing.
 use Prim.Native.Nat.{ℕ}
 use mathlib.Core.Path.{_≡_}

@@ -1,5 +1,5 @@
--- What `verdict_on` promises, after document 01, "Judge, verdict, joiner": it lists first and passes on any refusal; then it decides
--- by the list. And what each verdict means, in words of the smallest explaining sets.
+-- What `verdict_on` promises, after paper 01, 8.5: it "begins with a listing, whose refusal would be its own"; then it decides by the list.
+-- And what each verdict means, in words of the smallest explaining sets.
 -- Assumes nothing.
 use Prim.Native.Nat.{ℕ}
 use mathlib.Core.Path.{_≡_}
@@ -24,7 +24,7 @@ abbrev pub named : Decoded → ℕ → Bool
 named (accepted b) h = ltb h (b .abducibles)
 named (refused n) h = true
 
--- "23 a judged set or hypothesis names an abducible of B or above": behind the lister's own refusals, and before any search
+-- 23, "a member of the judged set, or the hypothesis, is not below B": behind the lister's own refusals, and before any search
 abbrev pub asked : Bool → Result → Result
 asked t (turned n) = turned n
 asked true (searched o) = searched o
@@ -33,7 +33,8 @@ asked false (searched o) = turned 23
 unfoldable pub verdictResult : List ℕ → ℕ → ℕ → ℕ → ℕ → Result
 verdictResult image h budget room space = asked (named (decode image) h) (resultOf image budget room space)
 
--- "Unexplained if the list is empty; needed if h is in every set; possible if in some; ruled out if in none." The nodes come last.
+-- "unexplained where no set is listed; needed where each listed set has h; possible where some has and some has not; ruled out where none
+-- has." The nodes come last.
 abbrev pub decided : ℕ → List ℕ → ℕ → Verdict
 decided h [] n = Unexplained n
 decided h (s ∷ l) n =

@@ -1,5 +1,5 @@
--- The rule book of document 01, "Meaning": literals, clauses, constraints, and the book itself.
--- Atoms are numbered from 0; those below `abducibles` are abducible, the others are defined.
+-- The rule book of paper 01, 2: literals, clauses, constraints, and the book itself.
+-- Atoms have numbers, from 0 on; the first `abducibles` of them are abducible, the rest are defined.
 -- Assumes nothing.
 use Prim.Native.Nat.{ℕ, _+_}
 use mathlib.Core.Bool.{Bool}
@@ -12,7 +12,7 @@ pub record Lit : Type 0 where
   pub atom : ℕ
   pub sign : Bool
 
--- a head and a list of body literals, perhaps empty (a fact)
+-- a head and a body, which is a list of literals; where that is empty, a fact
 pub record Clause : Type 0 where
   pub head : ℕ
   pub body : List Lit

@@ -1,4 +1,4 @@
--- Document 01, "The book's image" and "Refusal numbers": what an image says, or the number under which it is refused.
+-- Paper 01, 3 and 4: what an image says, or the number under which it is refused. Words in quotation marks are theirs.
 -- Assumes nothing.
 use Prim.Native.Nat.{ℕ, zero, suc, _+_, _-_, _*_, _/_, _%_}
 use mathlib.Core.List.{List, [], _∷_}
@@ -11,7 +11,7 @@ use Rattle.image.specs.paper.Walk.{Step, found, fault, Walk, give, ahead
 use Rattle.image.specs.paper.Faults.{Limits, limits, wrongAtoms, wrongAbducibles, wrongCount, wrongLit, wrongHead, wrongSize, wrongClause, bodyOf, wrongConditions, wrongAlternative}
 use Rattle.image.specs.paper.Loops.{loopFree}
 
--- "A literal is twice its atom, plus 1 if negated."
+-- "A literal is written as twice its atom's number, and one more if it is negated."
 abbrev pub litOf : ℕ → Lit
 litOf x = record { atom = x / 2; sign = eqb (x % 2) 0 }
 
@@ -22,7 +22,7 @@ module _ (s : List ℕ) where
     give (litOf x)
 
   module _ (most : Limits) (atoms : ℕ) where
-    -- "Each clause: record length in bytes after this field, head atom, body literals."
+    -- "A clause's record: its length in bytes behind the length field itself, the head atom, the body literals."
     unfoldable pub clause : ℕ → ℕ → Walk Clause
     clause abducibles sum = do
       left ← behind (length s)
@@ -38,7 +38,7 @@ module _ (s : List ℕ) where
       count ← field s (wrongAlternative left (most .literals) sum)
       times (literal atoms) count
 
-    -- "then until the record is used up"; n is at least the number of fields left
+    -- "one behind another until the record's end"; n is at least the number of fields left
     unfoldable pub alternatives : ℕ → ℕ → ℕ → Walk (List (List Lit))
     alternatives end zero sum = give []
     alternatives end (suc n) sum = before end do
@@ -46,7 +46,7 @@ module _ (s : List ℕ) where
       rest ← alternatives end n (sum + length first)
       give (first ∷ rest)
 
-    -- the inside of a record that ends at `end`: "condition count, condition literals", then the alternatives
+    -- the inside of a record that ends at `end`: "the number of conditions, the conditions, then the alternatives"
     unfoldable pub inside : ℕ → ℕ → ℕ → Walk Constraint
     inside end n sum = do
       left ← behind end
@@ -55,7 +55,7 @@ module _ (s : List ℕ) where
       ways ← alternatives end n (sum + count)
       give (record { conditions = conditions; alternatives = ways })
 
-    -- "Each: record length", then its inside
+    -- "A constraint's record: its length in bytes behind the length field itself", then its inside
     unfoldable pub constraint : ℕ → Walk Constraint
     constraint sum = do
       left ← behind (length s)
@@ -69,14 +69,14 @@ module _ (s : List ℕ) where
     count ← field s (wrongCount most)
     things count
 
-  -- "3. Clause count, clauses. 4. Constraint count, constraints."
+  -- "The number of clauses and their records." "The number of constraints and their records."
   unfoldable pub clausesAndConstraints : Limits → ℕ → ℕ → Walk (List Clause × List Constraint)
   clausesAndConstraints most atoms abducibles = do
     clauses ← counted (most .clauses) (λ n. running (clause most atoms abducibles) bodyCount n 0)
     constraints ← counted (most .constraints) (λ n. running (constraint most atoms) literalCount n 0)
     give (clauses, constraints)
 
-  -- "1. A, then B. 2. Goal count, goal literals.", then clauses and constraints
+  -- "A and B." "The number of goal literals and these literals." Then clauses and constraints.
   unfoldable pub book : Limits → Walk Book
   book most = do
     atoms ← field s (wrongAtoms (most .atoms))
@@ -85,7 +85,7 @@ module _ (s : List ℕ) where
     both ← clausesAndConstraints most atoms abducibles
     give (record { atoms = atoms; abducibles = abducibles; goal = goal; clauses = both .0; constraints = both .1 })
 
-  -- "After the last constraint, left-over bytes are 4."
+  -- "Bytes behind the last constraint are a 4."
   unfoldable pub ends : Walk (Unit {0})
   ends at = choose (eqb at (length s)) (found tt at) (fault 4 at)
 
@@ -99,7 +99,8 @@ module _ (s : List ℕ) where
   unfoldable pub lengthField : ℕ
   lengthField = fieldValues * fieldAt s lengthAt + fieldAt s (lengthAt + 2)
 
-  -- "Order: 1, 2, 3": shorter than 5 bytes; the version byte not 1; the length differs from the bytes after it
+  -- "1 comes before 2, and 2 before 3": "the image has fewer than 5 bytes", "the version byte is not 1", "the length field is not the
+  -- number of bytes behind it"
   unfoldable pub wrongFront : Finding
   wrongFront =
       unless (leb atomsAt (length s)) 1
@@ -110,7 +111,8 @@ pub data Decoded : Type 0 where
   accepted : Book → Decoded
   refused : ℕ → Decoded
 
--- "Order: 1, 2, 3, then one walk from the front, the first fault met being the answer. Only then 9."
+-- "Where none of them applies, the image is walked once from its front, and the first fault that is met is answered. An image without a
+-- fault in the walk is then tested for 9."
 unfoldable pub inOrder : Finding → Step Book → Decoded
 inOrder (wrong n) walked = refused n
 inOrder fine (fault n at) = refused n

@@ -1,5 +1,6 @@
--- The limits of document 01, and the faults of each field: "At each field: present (4), limit (5), atom (6), head (7)."
--- Each is the refusal's number that the field's value earns, in the document's order; that the field is there is `Walk`'s.
+-- The limits of paper 01, 3.4, and the faults of each field, 4.3 to 4.6: "is it there (4), does it keep its limit (5), does it name an
+-- atom of the book (6) and, as a head, a defined one (7)?" Each is the refusal's number that the field's value earns, in that order; that
+-- the field is there is `Walk`'s.
 -- Assumes nothing.
 use Prim.Native.Nat.{ℕ, _+_, _-_, _*_, _/_, _%_}
 use lib.Dec.{leb, ltb, eqb}
@@ -14,8 +15,7 @@ pub record Limits : Type 0 where
   pub constraints : ℕ
   pub literals : ℕ
 
--- A 1 to 256; B 0 to 64 and at most A; goal 0 to 16; clauses 0 to 512; body literals in all 0 to 1,024;
--- constraints 0 to 128; literals in all constraints together 0 to 1,024
+-- the most of each; A is 1 at least, and B no more than A (`wrongAtoms`, `wrongAbducibles`)
 abbrev pub limits : Limits
 limits =
     record {
@@ -44,7 +44,7 @@ wrongLit atoms x = unless (ltb (x / 2) atoms) 6 fine
 unfoldable pub wrongHead : ℕ → ℕ → ℕ → Finding
 wrongHead atoms abducibles x = unless (ltb x atoms) 6 (unless (leb abducibles x) 7 fine)
 
--- A record length is tested first: odd, below 2, beyond the end.
+-- A record: "First its length: odd, below 2, or past the image's end is 4."
 unfoldable pub wrongSize : ℕ → ℕ → Finding
 wrongSize left x = unless (eqb (x % 2) 0) 4 (unless (leb 2 x) 4 (unless (leb x left) 4 fine))
 
@@ -52,14 +52,14 @@ wrongSize left x = unless (eqb (x % 2) 0) 4 (unless (leb 2 x) 4 (unless (leb x l
 abbrev pub bodyOf : ℕ → ℕ
 bodyOf size = size / 2 - 1
 
--- A clause's record length: then its body count against the running total.
+-- A clause's record length: "Then the body literals so far with this clause's own."
 unfoldable pub wrongClause : ℕ → ℕ → ℕ → ℕ → Finding
 wrongClause left most sum x = andThen (wrongSize left x) (unless (leb (sum + bodyOf x) most) 5 fine)
 
--- A condition count must fit its record, then the total.
+-- The number of conditions: "it must fit into what is left of the record (4), and then the total must keep its limit (5)."
 unfoldable pub wrongConditions : ℕ → ℕ → ℕ → ℕ → Finding
 wrongConditions left most sum x = unless (leb (2 * x) left) 4 (unless (leb (sum + x) most) 5 fine)
 
--- An alternative's count: zero, then as a condition count.
+-- An alternative's count "may not be 0 (8)"; then as the number of conditions.
 unfoldable pub wrongAlternative : ℕ → ℕ → ℕ → ℕ → Finding
 wrongAlternative left most sum x = unless (leb 1 x) 8 (wrongConditions left most sum x)

@@ -1,5 +1,4 @@
--- The image's front, after document 01, "The book's image": one version byte, then the length of the rest, four bytes; then two-byte
--- fields, A first.
+-- The image's front, after paper 01, 3: the version byte, the four bytes of the length, and A, the first of the two-byte fields behind them.
 -- Assumes nothing.
 use Prim.Native.Nat.{ℕ, _+_}
 

@@ -1,4 +1,5 @@
--- Refusal 9: "an atom depends on each atom in the bodies of its clauses, negated or not, and so on through those".
+-- Refusal 9, paper 01, 4.8: "An atom depends on the atoms that stand in the bodies of its clauses, with or without negation, on those that
+-- these depend on, and so on."
 -- `Depends` says it as a relation; `loopFree` tests it by rounds. That they say the same is `LoopLaws`'.
 -- Assumes nothing.
 use Prim.Native.Nat.{ℕ, zero, suc}

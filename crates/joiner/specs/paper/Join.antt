@@ -1,4 +1,4 @@
--- The joiner, after document 01: what it answers and what it leaves in the third list, for all lists; and the same in words of sets.
+-- The joiner, after paper 01, 8.6: what it answers and what it leaves in the third list, for all lists; and the same in words of sets.
 -- Assumes nothing.
 use mathlib.Core.Path.{_≡_}
 use mathlib.Core.Bool.{Bool, _||_}
@@ -14,7 +14,7 @@ use Rattle.sets.specs.paper.Kept.{smallest, sort, Ordered, longest, zeros}
 use Rattle.joiner.specs.declared.Joined.{Joined}
 use Rattle.joiner.specs.declared.Joined.the-variants.{Count, Refused}
 
--- the sets of either list with no proper subset among them, once each, in order
+-- "each set of the two lists of which neither list has a proper subset, one time", in order
 unfoldable pub joint : List ℕ → List ℕ → List ℕ
 joint left right = sort (smallest (left ++ right))
 
@@ -57,7 +57,7 @@ pub record Joins (left right out : List ℕ) (r : Joined) (after : List ℕ) : T
 abbrev pub Either : List ℕ → List ℕ → ℕ → Type 0
 Either left right s = (s ∈ left) ⊎ (s ∈ right)
 
--- l has the members of either list with no proper subset among them, once each, in order
+-- l has each set of the two lists of which neither list has a proper subset, one time, in order
 pub record Joint (left right l : List ℕ) : Type 0 where
   pub members : (s : ℕ) → s ∈ l ↔ (Either left right s × ((t : ℕ) → Either left right t → Proper t s → ⊥))
   pub once : Once l

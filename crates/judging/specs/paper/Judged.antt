@@ -1,5 +1,4 @@
--- The judge's answer to every image and every set, after document 01, "Judge, verdict, joiner" and "Refusal numbers"; its promise; and
--- what each answer says in words of the meaning.
+-- The judge's answer to every image and every set, after paper 01, 6; its promise; and what each answer says in words of the meaning.
 -- Assumes nothing.
 use Prim.Native.Nat.{ℕ, _^_}
 use mathlib.Core.Path.{_≡_}
@@ -18,16 +17,17 @@ use Rattle.judging.specs.declared.Judgement.the-variants.{Explains, Fals
 
 -- ---- the answer
 
--- the place of the first false goal literal; where all are true, their number
+-- the place of the first goal literal that is false; where all are true, their number
 abbrev pub firstFalse : Book → ℕ → ℕ
 firstFalse b d = firstFailing (true-in (value b d)) (b .goal)
 
--- the place of the first constraint that does not hold; where all hold, their number
+-- the place of the first constraint that is broken; where all hold, their number
 abbrev pub firstBroken : Book → ℕ → ℕ
 firstBroken b d = firstFailing (holds (value b d)) (b .constraints)
 
--- On an accepted book: 23 if the set names an abducible of B or above; else the place of the first false goal literal, or
--- failing that of the first constraint that does not hold; else it explains.
+-- On an accepted book: "23 where a member of the set is not below B; then the goal literals, and if one is false the answer is the place
+-- of the first such; then, with all of them true, the constraints, and if one does not hold the answer is the place of the first such";
+-- else it explains.
 unfoldable pub judgedBook : Book → ℕ → Judgement
 judgedBook b d =
     choose (leb (2 ^ b .abducibles) d) (Refused 23)

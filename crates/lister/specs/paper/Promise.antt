@@ -1,5 +1,5 @@
 -- The lister's promise: its answer, every entry of the list and every number of the work area, on all inputs; and that what it lists is
--- right by the meaning. Lines in quotation marks are document 01's.
+-- right by the meaning. Words in quotation marks are those of paper 01, 8.
 -- Assumes nothing.
 use Prim.Native.Nat.{ℕ, _-_}
 use mathlib.Core.Path.{_≡_}
@@ -26,8 +26,8 @@ pub data Result : Type 0 where
   turned : ℕ → Result
   searched : Outcome → Result
 
--- "20 a list longer than 1,024 entries; 21 work area shorter than 16,384 numbers of 32 bits; 22 budget above 1,000,000", in this order and
--- behind the book's own refusals
+-- 20, "a list has more than 1,024 entries"; 21, "the work area has fewer than 16,384 numbers of 32 bits"; 22, "the budget is more than
+-- 1,000,000"; in this order and behind the book's own refusals
 abbrev pub byBook : Decoded → ℕ → ℕ → ℕ → Result
 byBook (refused n) room space budget = turned n
 byBook (accepted b) room space budget =
@@ -46,15 +46,15 @@ answerOf (searched (finished l n)) = Listed (length l) n
 answerOf (searched (used-up n)) = Refused 30 n
 answerOf (searched (no-room n)) = Refused 31 n
 
--- "Refusals 1 to 23 leave list and work area untouched. Refusals 30 and 31 leave every list entry 0. A finished search answers the number of
--- sets, K, and leaves them from the front and 0 in every later entry."
+-- "A refusal from 1 to 23 writes nothing." "After 30 and 31 each list entry is 0." A search that is finished "puts the sets into the
+-- first K entries and makes each later entry 0."
 abbrev pub setsOf : Result → List ℕ → List ℕ
 setsOf (turned n) old = old
 setsOf (searched (finished l n)) old = l ++ zeros (length old - length l)
 setsOf (searched (used-up n)) old = zeros (length old)
 setsOf (searched (no-room n)) old = zeros (length old)
 
--- "After any search, finished or not, the first 16,384 work numbers are 0 and later ones unchanged."
+-- "Every search, however it ends, makes the first 16,384 numbers of the work area 0 and leaves those behind them as they were."
 abbrev pub workOf : Result → List ℕ → List ℕ
 workOf (turned n) old = old
 workOf (searched o) old = zeros workNumbers ++ drop workNumbers old

@@ -1,6 +1,6 @@
--- The meaning in its source's own form: document 003, section 2, which takes it from Fung and Kowalski (1997). The lines in
--- quotation marks are that section's. The book is the abductive logic program ⟨KB, IC, Ab⟩: its clauses are the rules of KB,
--- its constraints are IC, its atoms below B are Ab, and its goal is G. Entailed proves that this meaning is Meaning's.
+-- The meaning in its source's own form: paper 003, after Fung and Kowalski (1997). Words in quotation marks are that page's. The book is
+-- the abductive logic program ⟨KB, IC, Ab⟩: its clauses are the rules of KB, its constraints are IC, its atoms below B are Ab, and its
+-- goal is G. Entailed proves that this meaning is Meaning's.
 -- Assumes nothing.
 use Prim.Native.Nat.{ℕ}
 use mathlib.Core.Path.{_≡_}
@@ -38,26 +38,26 @@ or₃ unknown unknown = unknown
 abbrev pub implies₃ : Truth → Truth → Truth
 implies₃ s t = or₃ (not₃ s) t
 
--- "An empty conjunction (in the body) is read as true."
+-- "A conjunction of nothing is true."
 abbrev pub conjunction {ℓ} : {A : Type ℓ} → (A → Truth) → List A → Truth
 conjunction t [] = true₃
 conjunction t (a ∷ l) = and₃ (t a) (conjunction t l)
 
--- "An empty disjunction is read as false."
+-- "A disjunction of nothing is false."
 abbrev pub disjunction {ℓ} : {A : Type ℓ} → (A → Truth) → List A → Truth
 disjunction t [] = false₃
 disjunction t (a ∷ l) = or₃ (t a) (disjunction t l)
 
--- "A literal is either an atom p or negated atom ¬p": its truth under an interpretation of the atoms.
+-- "A literal is an atom or an atom's negation": its truth under an interpretation of the atoms.
 abbrev pub literal : (ℕ → Truth) → Lit → Truth
 literal i l = choose (l .sign) (i (l .atom)) (not₃ (i (l .atom)))
 
--- "l₁ ∧ … ∧ lₙ, called the body, is a conjunction of literals."
+-- "A rule's body is the conjunction of its literals."
 abbrev pub body : List Lit → (ℕ → Truth) → Truth
 body ls i = conjunction (literal i) ls
 
--- "An integrity constraint (IC) represents a logical implication Left → Right",
--- "l₁ ∧ … ∧ lₙ → (l₁₁ ∧ … ∧ l₁ₙ₁) ∨ … ∨ (lₖ₁ ∧ … ∧ lₖₙₖ)".
+-- "An integrity constraint is an implication: on its left a conjunction of literals, on its right a disjunction of conjunctions of
+-- literals."
 abbrev pub implication : Constraint → (ℕ → Truth) → Truth
 implication k i = implies₃ (body (k .conditions) i) (disjunction (λ (ls : List Lit). body ls i) (k .alternatives))
 
@@ -68,13 +68,13 @@ pub record Completed (b : Book) (d : ℕ) (i : ℕ → Truth) : Type 0 where
   -- an abducible if and only if it is in Δ
   pub assumed : (p : ℕ) → abducible b p ≡ true → i p ≡ choose (has d p) true₃ false₃
 
--- "KB ∪ Δ ⊨ …": true in every three-valued model of the completion.
+-- KB ∪ Δ ⊨ φ: "φ is true in every three-valued model of the completion of KB with Δ."
 abbrev pub Entailed : Book → ℕ → ((ℕ → Truth) → Truth) → Type 0
 Entailed b d formula = (i : ℕ → Truth) → Completed b d i → formula i ≡ true₃
 
--- "An answer to a goal G is the set of abducibles Δ ⊆ Ab such that the following entailments hold."
+-- "Δ answers a goal G where KB with Δ entails both the constraints and the goal."
 pub record Answer (b : Book) (d : ℕ) : Type 0 where
-  -- "KB ∪ Δ ⊨ IC"
+  -- KB ∪ Δ ⊨ IC
   pub constraints : Every (λ (k : Constraint). Entailed b d (implication k)) (b .constraints)
-  -- "KB ∪ Δ ⊨ G"
+  -- KB ∪ Δ ⊨ G
   pub goal : Entailed b d (body (b .goal))

@@ -1,4 +1,4 @@
--- Document 01, "Meaning", in its order and words. A set is a number, any natural number: abducible j is 2^j.
+-- Paper 01, 5, in its order. Words in quotation marks are that section's. A set is a number, any natural number: abducible j is 2^j.
 -- Assumes nothing.
 use Prim.Native.Nat.{ℕ, zero, suc, _<_}
 use mathlib.Core.Path.{_≡_}
@@ -10,7 +10,7 @@ use Rattle.base.specs.paper.Lists.{all, any, filter}
 use Rattle.base.specs.paper.Members.{has, Inside}
 use Rattle.image.specs.paper.Book.{Lit, Clause, Constraint, Book}
 
--- An atom below B is abducible; the others are defined.
+-- The first B atoms are abducible, the rest are defined (2.1).
 abbrev pub abducible : Book → ℕ → Bool
 abducible b p = ltb p (b .abducibles)
 
@@ -30,12 +30,12 @@ all-true v ls = all (true-in v) ls
 abbrev pub some-body : (ℕ → Bool) → List Clause → Bool
 some-body v cs = any (λ (c : Clause). all-true v (c .body)) cs
 
--- An abducible is true if it is in D and false otherwise. A defined atom is true if some clause for it has every body
--- literal true, and false otherwise.
+-- "Under D an abducible is true exactly if it is a member of D. A defined atom is true exactly if it has a clause all of whose body
+-- literals are true."
 abbrev pub found : Book → ℕ → (ℕ → Bool) → ℕ → Bool
 found b d v p = choose (abducible b p) (has d p) (some-body v (clausesFor b p))
 
--- An atom's value is found from its clauses' atoms, each found the same way, down to a depth of n.
+-- "The value of an atom is worked out from the values of the atoms in its clauses, and theirs in the same way": here down to a depth of n.
 unfoldable pub valued : Book → ℕ → ℕ → ℕ → Bool
 valued b d zero p = false
 valued b d (suc n) p = found b d (valued b d n) p
@@ -47,11 +47,11 @@ depth b = suc (b .atoms)
 abbrev pub value : Book → ℕ → ℕ → Bool
 value b d p = valued b d (depth b) p
 
--- A constraint holds if a condition literal is false or some alternative has all literals true.
+-- "A constraint holds where one of its conditions is false, or where all literals of one of its alternatives are true."
 abbrev pub holds : (ℕ → Bool) → Constraint → Bool
 holds v k = any (λ (l : Lit). not (true-in v l)) (k .conditions) || any (all-true v) (k .alternatives)
 
--- D explains if every goal literal is true and every constraint holds.
+-- "D explains where each goal literal is true and each constraint holds."
 abbrev pub explains : Book → ℕ → Bool
 explains b d = all-true (value b d) (b .goal) && all (holds (value b d)) (b .constraints)
 
@@ -59,7 +59,7 @@ explains b d = all-true (value b d) (b .goal) && all (holds (value b d)) (b .con
 abbrev pub Members : Book → ℕ → Type 0
 Members b d = (j : ℕ) → has d j ≡ true → j < b .abducibles
 
--- D is smallest if it is a set of abducibles, it explains, and no proper subset of D explains.
+-- "D is smallest where it explains and none of its proper subsets does"; and it is a set of abducibles.
 pub record Smallest (b : Book) (d : ℕ) : Type 0 where
   pub abducibles : Members b d
   pub explaining : explains b d ≡ true

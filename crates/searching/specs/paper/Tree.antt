@@ -28,7 +28,7 @@ waiting s c = choose (marked s (c .head)) 0 (suc (length (c .body)))
 unfoldable pub potential : Book → Node → ℕ
 potential b n = sum weight (n .agenda) + sum (waiting (n .sheet)) (b .clauses)
 
--- the nodes from n on, "each with everything below it before the next", down to a depth of k
+-- the nodes from n on, where "all that lies below one comes before the next one" (paper 01, 7.4), down to a depth of k
 unfoldable pub descend : Book → ℕ → Node → List Node
 descend b zero n = []
 descend b (suc k) n = n ∷ flat (descend b k) (children b n)

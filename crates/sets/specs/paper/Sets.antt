@@ -1,5 +1,5 @@
--- Sets of abducibles as numbers, after document 01: abducible j is 2 ^ j, a set's size is its count of ones, and the order is by
--- number of members, then by value. Everything is said of any number, however many abducibles there are.
+-- Sets of abducibles as numbers, after paper 01, 5.5 and 5.6: abducible j is 2 ^ j, "a set has as many members as its number has ones",
+-- and the order is by size, then by value. Everything is said of any number, however many abducibles there are.
 -- Assumes nothing.
 use mathlib.Core.Path.{_≡_}
 use mathlib.Core.Bool.{Bool, true, _&&_, _||_}
