@@ -1,8 +1,8 @@
 """Compares the C lister with the independent Python implementation.
 
-    python3 check.py [FOLDER]
+    python3 bench/check.py
 
-FOLDER holds the Python implementation, ../tests unless given. Compared are the answer, the node number and every entry
+Compared are the answer, the node number and every entry
 of the list, on the benchmark's books and on 2,000 small random ones, with budgets and rooms about those that just do;
 and the refusals of 5,000 images, most of them damaged. Searches above 200,000 nodes are left out, for Python takes too
 long over them.
@@ -25,10 +25,10 @@ MOST_NODES = 200_000
 WORK_NUMBERS = 16384
 
 sys.dont_write_bytecode = True
-sys.path.append(sys.argv[1] if len(sys.argv) > 1 else str(HERE.parent / "tests"))
-# The Python implementation's; after the benchmark's own modules, which they must not hide.
-import images
-import search
+sys.path.append(str(HERE.parent))
+# The Python implementation's.
+from tests.generators import images
+from tests.implementation import search
 
 
 # Random books.

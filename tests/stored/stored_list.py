@@ -6,10 +6,10 @@ An answer written by hand has the short form `listed 2 nodes 15: 1 2` or
 rules. None stands where only the implementation was asked.
 """
 
-import books
-from answers import line_list, pack_list
-from notation import image
-from search import LIST_BEFORE
+from tests.stored import books
+from tests.implementation.answers import line_list, pack_list
+from tests.implementation.notation import image
+from tests.implementation.search import LIST_BEFORE
 
 WORK = 16384
 TOP = 1 << 63

@@ -5,9 +5,9 @@ Every answer is written by hand: e explains, g a false goal literal's place,
 c a broken constraint's place, r a refusal.
 """
 
-import books
-from answers import line_judge, pack_judge
-from notation import image, rest
+from tests.stored import books
+from tests.implementation.answers import line_judge, pack_judge
+from tests.implementation.notation import image, rest
 
 WORDS = {"e": "explains", "g": "goal", "c": "constraint", "r": "refused"}
 

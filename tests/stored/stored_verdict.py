@@ -4,10 +4,10 @@ Written from the specification alone; shares no code with the engine.
 Answers are written by hand in the short form of the lister's table.
 """
 
-import books
-from answers import line_verdict, pack_verdict
-from notation import image
-from stored_list import full_line
+from tests.stored import books
+from tests.implementation.answers import line_verdict, pack_verdict
+from tests.implementation.notation import image
+from tests.stored.stored_list import full_line
 
 WORK = 16384
 TOP = 1 << 63

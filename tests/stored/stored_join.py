@@ -5,8 +5,8 @@ An answer written by hand has the short form `2: 1 2` (joined, and the list) or
 `refused 31`; None stands where only the implementation was asked.
 """
 
-from answers import line_join, pack_join
-from joiner import LIST_BEFORE
+from tests.implementation.answers import line_join, pack_join
+from tests.implementation.joiner import LIST_BEFORE
 
 TOP = 1 << 63
 ALL = (1 << 64) - 1

@@ -10,8 +10,8 @@ A break and a constraint are choices.
 
 from dataclasses import dataclass
 
-from judge import explains
-from reader import Book, read
+from tests.implementation.judge import explains
+from tests.implementation.reader import Book, read
 
 MOST_ENTRIES = 1024
 WORK_NUMBERS = 16384

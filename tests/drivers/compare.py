@@ -2,17 +2,17 @@
 
 Written from the specification alone; shares no code with the engine.
 
-    python3 compare.py --replay "path/to/replay" --seed 1 --count 20000 --operations 1,2
+    python3 -m tests.drivers.compare --replay "path/to/replay" --seed 1 --count 20000 --operations 1,2
 """
 
 import random
 import sys
 
-from answers import Cases
-from drivers import Comparison, batches, options
-from images import case
-from reader import Book, read
-from search import admitted, explore
+from tests.implementation.answers import Cases
+from tests.drivers.shared import Comparison, batches, options
+from tests.generators.images import case
+from tests.implementation.reader import Book, read
+from tests.implementation.search import admitted, explore
 
 
 class Figures:

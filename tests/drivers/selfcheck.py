@@ -3,21 +3,21 @@ trying all sets, and against itself.
 
 Written from the specification alone; shares no code with the engine.
 
-    python3 selfcheck.py
+    python3 -m tests.drivers.selfcheck
 """
 
 import random
 
-import books
-import images
-import stored
-from answers import BadCase, line, line_join, line_judge, line_list, line_read, line_verdict, lines, pack_read
-from images import choice_book, image, loop_book, small_book, sound_book
-from joiner import join
-from judge import explains, judge
-from reader import LONGEST_IMAGE, Book, Refused, dependency_order, encode, read, read_or_raise
-from search import explore, listing, smallest_by_trying, verdict
-from stored_read import longest
+from tests.stored import books
+from tests.generators import images
+from tests.stored import stored
+from tests.implementation.answers import BadCase, line, line_join, line_judge, line_list, line_read, line_verdict, lines, pack_read
+from tests.generators.images import choice_book, image, loop_book, small_book, sound_book
+from tests.implementation.joiner import join
+from tests.implementation.judge import explains, judge
+from tests.implementation.reader import LONGEST_IMAGE, Book, Refused, dependency_order, encode, read, read_or_raise
+from tests.implementation.search import explore, listing, smallest_by_trying, verdict
+from tests.stored.stored_read import longest
 
 passed = 0
 

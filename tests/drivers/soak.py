@@ -3,17 +3,17 @@ replay program and by this implementation.
 
 A driver for the implementation beside it; shares no code with the engine.
 
-    python3 soak.py --replay "path/to/replay" --seed 1 --count 100000
+    python3 -m tests.drivers.soak --replay "path/to/replay" --seed 1 --count 100000
 """
 
 import random
 import sys
 
-from answers import pack_judge, pack_list, pack_read, pack_verdict
-from drivers import Comparison, batches, options
-from images import damaged_image, limit_image, loop_image, sound_image
-from reader import framed
-from search import WORK_NUMBERS
+from tests.implementation.answers import pack_judge, pack_list, pack_read, pack_verdict
+from tests.drivers.shared import Comparison, batches, options
+from tests.generators.images import damaged_image, limit_image, loop_image, sound_image
+from tests.implementation.reader import framed
+from tests.implementation.search import WORK_NUMBERS
 
 HEADER = 5  # the version and the length
 EDGES = (0, 1, 2, 127, 128, 254, 255)

@@ -2,17 +2,17 @@
 
 Written from the specification alone; shares no code with the engine.
 
-    python3 answers.py < cases > lines
+    python3 -m tests.implementation.answers < cases > lines
 
 answers a whole run of cases.
 """
 
 import sys
 
-from joiner import join
-from judge import judge
-from reader import Book, read
-from search import listing, verdict
+from tests.implementation.joiner import join
+from tests.implementation.judge import judge
+from tests.implementation.reader import Book, read
+from tests.implementation.search import listing, verdict
 
 LONGEST_CASE_IMAGE = 16384
 MOST_ROOM = 1100

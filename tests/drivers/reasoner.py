@@ -3,7 +3,7 @@
 Abducibles are a choice, clauses are rules, goal and constraints are integrity constraints. It installs nothing; it needs the
 programs gringo and clasp (Debian's packages of these names) and a replay program.
 
-    python3 reasoner.py --replay "path/to/replay" --seed 1 --books 1000
+    python3 -m tests.drivers.reasoner --replay "path/to/replay" --seed 1 --books 1000
 """
 
 import json
@@ -12,10 +12,10 @@ import shutil
 import subprocess
 import sys
 
-from answers import pack_list
-from drivers import options, replayed
-from images import choice_book, small_book
-from reader import encode
+from tests.implementation.answers import pack_list
+from tests.drivers.shared import options, replayed
+from tests.generators.images import choice_book, small_book
+from tests.implementation.reader import encode
 
 
 def atom(book, p):

@@ -8,7 +8,7 @@ import re
 import sys
 from pathlib import Path
 
-TOP = Path(__file__).resolve().parent.parent
+TOP = Path(__file__).resolve().parents[2]
 KIT = ("Prim.", "mathlib.Core.", "lib.")
 OWN = re.compile(r"Rattle·\w+(·specs\.specs|\.specs)\.(paper|declared)\.")
 DEFINES = re.compile(r"^(?P<indent> *)(?:(?:abbrev|unfoldable) pub (?P<name>[^\s:({]+)|pub (?:record|data) (?P<type>[^\s:({]+))")

@@ -2,16 +2,16 @@
 
 A driver for the implementation beside it; shares no code with the engine.
 
-    python3 all_sets.py --replay "path/to/replay" --seed 1 --books 500
+    python3 -m tests.drivers.all_sets --replay "path/to/replay" --seed 1 --books 500
 """
 
 import random
 import sys
 
-from answers import pack_judge
-from drivers import Comparison, options
-from images import small_book
-from reader import encode
+from tests.implementation.answers import pack_judge
+from tests.drivers.shared import Comparison, options
+from tests.generators.images import small_book
+from tests.implementation.reader import encode
 
 
 def main():

@@ -3,7 +3,7 @@ program runs. Each must write what this implementation answers. (`rt try` has an
 
 A driver for the implementation beside it; shares no code with the engine. It works on a copy of the crates.
 
-    python3 tried.py --seed 1 --count 3000
+    python3 -m tests.drivers.tried --seed 1 --count 3000
 """
 
 import argparse
@@ -14,13 +14,13 @@ import sys
 import tempfile
 from pathlib import Path
 
-from answers import line
-from images import case
+from tests.implementation.answers import line
+from tests.generators.images import case
 
 BATCH = 300  # the toolchain gives each run a few seconds
 BUILDS = 3
 ENDED_WELL = "ok: the native program"
-ROOT = Path(__file__).resolve().parent.parent
+ROOT = Path(__file__).resolve().parents[2]
 
 
 def copied(folder):

@@ -3,7 +3,7 @@
 Written from the specification alone; shares no code with the engine.
 """
 
-from reader import Book, dependency_order, read
+from tests.implementation.reader import Book, dependency_order, read
 
 
 def judge(image, assumed):

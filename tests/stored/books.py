@@ -6,7 +6,7 @@ The books of P5 and P6 are examples 5 and 6 of the article that the
 specification names for its meaning (paper 003, 6).
 """
 
-from notation import image, raw, rest
+from tests.implementation.notation import image, raw, rest
 
 P1 = raw("01 00000028 0005 0003 0001 0006 0003 0004 0003 0000 0004 0003 0002 0004 0003 0004 "
          "0001 0008 0001 0004 0001 0008")

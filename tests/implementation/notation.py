@@ -9,7 +9,7 @@ first mention, so `abducible` comes first; `defined x y` only fixes an order.
 A minus negates. `<-` is a clause, `->` a constraint, `|` parts alternatives.
 """
 
-from reader import Book, Clause, Constraint, encode, framed
+from tests.implementation.reader import Book, Clause, Constraint, encode, framed
 
 
 class Names:

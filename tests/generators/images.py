@@ -5,12 +5,12 @@ Written from the specification alone; shares no code with the engine.
 Every function takes a random.Random, so a seed gives the same cases again.
 """
 
-from answers import pack_join, pack_judge, pack_list, pack_read, pack_verdict
-from joiner import smallest
-from reader import (MOST_ABDUCIBLES, MOST_ATOMS, MOST_BODY_LITERALS, MOST_CLAUSES,
+from tests.implementation.answers import pack_join, pack_judge, pack_list, pack_read, pack_verdict
+from tests.implementation.joiner import smallest
+from tests.implementation.reader import (MOST_ABDUCIBLES, MOST_ATOMS, MOST_BODY_LITERALS, MOST_CLAUSES,
                     MOST_CONSTRAINT_LITERALS, MOST_CONSTRAINTS, MOST_GOAL_LITERALS,
                     Book, Clause, Constraint, encode, fields, framed, read)
-from search import WORK_NUMBERS, explore
+from tests.implementation.search import WORK_NUMBERS, explore
 
 
 def pick(rng, weighted):

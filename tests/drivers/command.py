@@ -1,6 +1,6 @@
 """Tries ./wizogbare as a new user would: every command, every sentence, every exit status.
 
-    python3 tests/command.py
+    python3 -m tests.drivers.command
 
 The programs `desk` and `listing` must be built. What building does is tried in a small checkout with a stand-in for `rt`, so
 nothing is proved here. Ends with status 1 if anything differs from what is written below.
@@ -17,10 +17,10 @@ import sys
 import tempfile
 from pathlib import Path
 
-import books
-from stored_read import longest
+from tests.stored import books
+from tests.stored.stored_read import longest
 
-HERE = Path(__file__).resolve().parent.parent
+HERE = Path(__file__).resolve().parents[2]
 COMMAND = (sys.executable, "-S", HERE / "wizogbare")
 EXAMPLE = "books/example"
 LISTED = "sets 2 nodes 15\n1: 0\n2: 1\n"

@@ -4,8 +4,8 @@ Written from the specification alone; shares no code with the engine.
 The answer 0 stands for accepted.
 """
 
-from answers import line_read, pack_read
-from notation import image, raw, rest
+from tests.implementation.answers import line_read, pack_read
+from tests.implementation.notation import image, raw, rest
 
 SMALLEST = "0001 0000 0000 0000 0000"  # A 1, B 0, nothing else
 SPIKE = ("01 00000028 0005 0003 0001 0006 0003 0004 0003 0000 0004 0003 0002 0004 0003 0004 "

@@ -2,16 +2,16 @@
 
 Written from the specification alone; shares no code with the engine.
 
-    python3 stored.py 1 > stdin
-    python3 stored.py 1 --answers > stdout
-    python3 stored.py 1 --names
+    python3 -m tests.stored.stored 1 > stdin
+    python3 -m tests.stored.stored 1 --answers > stdout
+    python3 -m tests.stored.stored 1 --names
 """
 
 import argparse
 import importlib
 import sys
 
-TABLES = {1: "stored_read", 2: "stored_judge", 3: "stored_list", 4: "stored_verdict", 5: "stored_join"}
+TABLES = {1: "tests.stored.stored_read", 2: "tests.stored.stored_judge", 3: "tests.stored.stored_list", 4: "tests.stored.stored_verdict", 5: "tests.stored.stored_join"}
 
 
 def cases(operation):

@@ -8,7 +8,7 @@ import shlex
 import subprocess
 from collections import Counter
 
-from answers import line
+from tests.implementation.answers import line
 
 SHOWN = 5  # how many differing cases are printed
 SHOWN_LENGTH = 400  # how much of a long line is printed
