@@ -10,14 +10,12 @@
 
 #define _POSIX_C_SOURCE 199309L
 
+#include "../include/wizogbare.h"
 #include "book.h"
 
 #include <math.h>
 #include <string.h>
 #include <time.h>
-
-uint64_t wizogbare_list(const uint8_t *image, size_t image_len, uint32_t budget, uint64_t *sets, size_t sets_len,
-                        uint32_t *work, size_t work_len);
 
 typedef uint64_t lister(const uint8_t *, size_t, uint32_t, uint64_t *, size_t, uint32_t *, size_t);
 

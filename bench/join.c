@@ -1,6 +1,9 @@
 /* The joiner against plain C doing the same work, in one run: two lists of 1,024 sets.
    The worst case that has a result: 1,024 sets of which none is inside another, from the last in the order to the first, in both
-   lists. Each set of the left list is compared with all before it, twice, and each of the right meets its equal. */
+   lists. Each set of the left list is compared with all before it, twice, and each of the right meets its equal.
+   Two more have more sets kept on the way than there is room: 2,048 sets of which none is inside another, which is refused, and the
+   same where smaller sets at the end drop most of them. */
+#include "../include/wizogbare.h"
 #include "kept.h"
 
 #include <stdint.h>
@@ -8,8 +11,6 @@
 #include <stdlib.h>
 #include <string.h>
 #include <time.h>
-
-uint64_t wizogbare_join(const uint64_t *left, size_t n, const uint64_t *right, size_t m, uint64_t *out, size_t room);
 
 static uint64_t c_join(const uint64_t *left, size_t n, const uint64_t *right, size_t m, uint64_t *out, size_t room) {
     uint64_t kept[2048 + ENDS];
@@ -58,12 +59,15 @@ static void report(const char *name, const uint64_t *left, const uint64_t *right
 }
 
 int main(void) {
-    static uint64_t apart[1024], random_sets[1024], other[1024];
+    static uint64_t all[2048], random_sets[1024], other[1024], dropping[1024];
+    const uint64_t *more = all, *apart = all + 1024;
     size_t n = 0;
     /* sets of three members: none is inside another */
-    for (int i = 0; i < 64 && n < 1024; i++)
-        for (int j = 0; j < i && n < 1024; j++)
-            for (int k = 0; k < j && n < 1024; k++) apart[1023 - n++] = 1ull << i | 1ull << j | 1ull << k;
+    for (int i = 0; n < 2048; i++)
+        for (int j = 0; j < i; j++)
+            for (int k = 0; k < j && n < 2048; k++) all[2047 - n++] = 1ull << i | 1ull << j | 1ull << k;
+    memcpy(dropping, more, sizeof dropping);
+    for (int i = 0; i < 20; i++) dropping[1023 - i] = 1ull << i;
     uint64_t x = 88172645463325252ull;
     for (int i = 0; i < 2048; i++) {
         x ^= x << 13, x ^= x >> 7, x ^= x << 17;
@@ -71,6 +75,8 @@ int main(void) {
     }
     printf("| two lists of 1,024 sets | engine, us | C, us | ratio |\n|---|---|---|---|\n");
     report("worst case: none inside another, both lists the same, last first", apart, apart);
+    report("2,048 sets, none inside another: no room", apart, more);
+    report("the same, with 20 small sets at the end", apart, dropping);
     report("random sets of some six of 24", random_sets, other);
     return 0;
 }

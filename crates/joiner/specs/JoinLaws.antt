@@ -15,8 +15,8 @@ use Rattle.base.specs.Bools.{clash, decide, either, either-left, either-right}
 use Rattle.base.specs.paper.Lists.{_∈_}
 use Rattle.base.specs.Lists.{∈-left, ∈-right, ∈-split}
 use Rattle.sets.specs.paper.Sets.{Proper}
-use Rattle.sets.specs.paper.Kept.{smallest, sort, longest}
-use Rattle.sets.specs.KeptLaws.{smallest-proper, smallest-members, smallest-once, sort-members, sort-ordered, ordered-once, ordered-unique}
+use Rattle.sets.specs.paper.Kept.{sort, longest}
+use Rattle.sets.specs.KeptLaws.{Keeps, keeps-members, keeps-once, smallest-keeps, smallest-proper, sort-members, sort-ordered, ordered-once, ordered-unique}
 use Rattle.joiner.specs.declared.Joined.{Joined}
 use Rattle.joiner.specs.paper.Join.{joint, Ending, tooLong, noRoom, result, long, ending, answerOf, entriesOf, Joins, Either, Joint, Long, Outcome, refused20, refused31, counted}
 
@@ -32,35 +32,39 @@ joins-by {out = out} e h a s = record {
   sets = s ∙ sym (ap (λ (x : Ending). entriesOf x out) h);
 }
 
--- The result has the members that the words name,
-pub joint-is : (left right : List ℕ) → Joint left right (joint left right)
-unfolding joint
-joint-is left right = record {
-  members = λ s. (λ m. to s (sort-members (smallest all) s .0 m), λ w. sort-members (smallest all) s .1 (back s w));
-  once = ordered-once (sort (smallest all)) (sort-ordered (smallest all) (smallest-once all));
-  ordered = sort-ordered (smallest all) (smallest-once all);
+-- The smallest sets of both lists, in order, are what the words name,
+pub keeps-joint : (left right : List ℕ) {kept : List ℕ} → Keeps (λ s. s ∈ left ++ right) kept → Joint left right (sort kept)
+keeps-joint left right {kept} k = record {
+  members = λ s. (λ m. to s (sort-members kept s .0 m), λ w. sort-members kept s .1 (back s w));
+  once = ordered-once (sort kept) (sort-ordered kept (keeps-once k));
+  ordered = sort-ordered kept (keeps-once k);
 }
   where
-    all : List ℕ
-    all = left ++ right
-
     join-either : {s : ℕ} → Either left right s → s ∈ left ++ right
     join-either (inl m) = ∈-left right m
     join-either (inr m) = ∈-right left m
 
-    to : (s : ℕ) → s ∈ smallest all → Either left right s × ((t : ℕ) → Either left right t → Proper t s → ⊥)
+    to : (s : ℕ) → s ∈ kept → Either left right s × ((t : ℕ) → Either left right t → Proper t s → ⊥)
     to s m =
-        let w = smallest-proper (λ x. x ∈ left ++ right) s .0 (smallest-members all s .0 m) in
+        let w = smallest-proper (λ x. x ∈ left ++ right) s .0 (keeps-members k s .0 m) in
         (∈-split left (w .0), λ t e. w .1 t (join-either e))
 
-    back : (s : ℕ) → Either left right s × ((t : ℕ) → Either left right t → Proper t s → ⊥) → s ∈ smallest all
+    back : (s : ℕ) → Either left right s × ((t : ℕ) → Either left right t → Proper t s → ⊥) → s ∈ kept
     back s w =
-        smallest-members all s .1 (smallest-proper (λ x. x ∈ left ++ right) s .1 (join-either (w .0), λ t e. w .1 t (∈-split left e)))
+        keeps-members k s .1 (smallest-proper (λ x. x ∈ left ++ right) s .1 (join-either (w .0), λ t e. w .1 t (∈-split left e)))
 
--- and is the only such list.
+pub joint-is : (left right : List ℕ) → Joint left right (joint left right)
+unfolding joint
+joint-is left right = keeps-joint left right (smallest-keeps (left ++ right))
+
+-- and the only such list.
 pub joint-unique : {left right l m : List ℕ} → Joint left right l → Joint left right m → l ≡ m
 joint-unique {l = l} {m = m} p q =
     ordered-unique l m (p .ordered) (q .ordered) (λ s. (λ i. q .members s .1 (p .members s .0 i), λ i. p .members s .1 (q .members s .0 i)))
+
+-- So in whatever way they are kept, in order they are the result.
+pub keeps-result : (left right : List ℕ) {kept : List ℕ} → Keeps (λ s. s ∈ left ++ right) kept → sort kept ≡ joint left right
+keeps-result left right k = joint-unique (keeps-joint left right k) (joint-is left right)
 
 long-test : (left right out : List ℕ) → Long left right out → (long (length left) || (long (length right) || long (length out))) ≡ true
 long-test left right out (inl h) = either-left (long (length left)) (long (length right) || long (length out)) (lt-ltb longest (length left) h)

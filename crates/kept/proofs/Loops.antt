@@ -15,7 +15,6 @@ use Rattle.base.specs.Parts.{filter-ahead, lay, lay-fits, lay-full, length-lay,
 use Rattle.base.specs.paper.Least
 use Rattle.sets.specs.paper.Sets.{inside}
 use Rattle.sets.specs.paper.Kept.{insert}
-use Rattle.sets.specs.KeptLaws.{insert-length}
 use Rattle.kept.specs.Contracts.{Overlaid, AtFront}
 use Rattle.base.specs.Stores.{next-all, stored, stored-behind, behind, behind-at, lay-store, filter-first, filter-later}
 
@@ -153,33 +152,32 @@ module _ (old : List ℕ) (n s : ℕ) (fits : n ≤ length old) where
         list = w ∙ q .list ∙ sym (lay-full (others old n s) (s ∷ []) old full) ∙ ap (λ (l : List ℕ). lay l old) (sym (joins e));
       }
 
--- ---- inserting the sets of a list: the first i of them are inserted
+-- ---- inserting the sets of a list: the first i of them are inserted, and those kept have room
+
+pub overlaid-length : {kept old after : List ℕ} {r : ℕ} → Overlaid kept old r after → length after ≡ length old
+overlaid-length {kept} {old} laid = ap length (laid .list) ∙ length-lay kept old
 
 pub record Inserting (old : List ℕ) (n : ℕ) (list now : List ℕ) (held i : ℕ) : Type 0 where
   pub within : i ≤ length list
-  pub bound : held ≤ n + i
-  pub fits : n + length list ≤ length old
+  pub fits : held ≤ length now
   pub size : length now ≡ length old
   pub kept : foldl insert (take n old) list ≡ foldl insert (take held now) (drop i list)
 
 module _ (old : List ℕ) (n : ℕ) (list : List ℕ) where
-  pub inserting-start : n + length list ≤ length old → Inserting old n list old n 0
-  inserting-start h = record { within = omega arith; bound = omega arith; fits = h; size = refl; kept = refl }
+  pub inserting-start : n ≤ length old → Inserting old n list old n 0
+  inserting-start h = record { within = omega arith; fits = h; size = refl; kept = refl }
 
   pub inserting-more : {now after : List ℕ} {held i r : ℕ} → Inserting old n list now held i → i < length list
-      → Overlaid (insert (take held now) (getD list i 0)) now r after → Inserting old n list after r (i + 1)
-  inserting-more {now} {after} {held} {i} {r} q h laid =
+      → Overlaid (insert (take held now) (getD list i 0)) now r after → r ≤ length after → Inserting old n list after r (i + 1)
+  inserting-more {now} {after} {held} {i} {r} q h laid room =
       let x : ℕ = getD list i 0 in
-      let size : length after ≡ length old = ap length (laid .list) ∙ length-lay (insert (take held now) x) now ∙ q .size in
-      let some : length (take held now) ≡ held = length-take-le held now (omega (arith, q .bound, q .fits, q .size)) in
-      let most : r ≤ held + 1 = omega (arith, insert-length (take held now) x, some, laid .count) in
+      let same : length after ≡ length now = overlaid-length laid in
       let new : take r after ≡ insert (take held now) x =
-      ap₂ take (laid .count) (laid .list) ∙ take-lay (insert (take held now) x) now (omega (arith, most, laid .count, q .bound, q .fits, q .size)) in
+      ap₂ take (laid .count) (laid .list) ∙ take-lay (insert (take held now) x) now (omega (arith, laid .count, same)) in
       record {
         within = omega arith;
-        bound = omega (arith, most, q .bound);
-        fits = q .fits;
-        size = size;
+        fits = room;
+        size = same ∙ q .size;
         kept =
             q .kept ∙ ap (foldl insert (take held now)) (next-all list i h)
             ∙ ap (λ (k : List ℕ). foldl insert k (drop (i + 1) list)) (sym new);
@@ -190,6 +188,6 @@ module _ (old : List ℕ) (n : ℕ) (list : List ℕ) where
   inserting-end {now} {held} {i} q h =
       let all : take held now ≡ foldl insert (take n old) list = sym (q .kept ∙ ap (foldl insert (take held now)) (drop-of-length-le list h)) in
       record {
-        count = sym (length-take-le held now (omega (arith, q .bound, q .within, q .fits, q .size))) ∙ ap length all;
+        count = sym (length-take-le held now (q .fits)) ∙ ap length all;
         list = all;
       }

@@ -165,15 +165,19 @@ pub fn insert(kept: &mut [u64], count: usize, set: u64) -> usize
     left + 1
 }
 
-// Inserts the sets of `list` one after the other, and answers how many are kept then.
+// Inserts the sets of `list` one after the other, and answers how many are kept then. Where those kept on the way outnumber the
+// entries, it stops, and answers more than there are entries.
 pub fn insert_all(kept: &mut [u64], count: usize, list: &[u64]) -> usize
-    requires { ⌜ count + length (now list) ≤ length (now kept) ⌝ }
-    ensures { λ r. ⌜ AtFront (foldl insert (take count (now (kept .entry))) (now (list .entry))) r (now (kept .exit)) ⌝ }
+    requires { ⌜ count ≤ length (now kept) ⌝ }
+    ensures { λ r. ⌜ (r ≤ length (now (kept .exit)) → AtFront (foldl insert (take count (now (kept .entry))) (now (list .entry))) r (now (kept .exit))) ⌝ }
 {
     let mut held = count;
     let mut i = 0;
     while i < list.len() {
         held = insert(kept, held, list[i]);
+        if held > kept.len() {
+            return held;
+        }
         i += 1;
     }
     held

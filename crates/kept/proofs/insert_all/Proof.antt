@@ -1,10 +1,11 @@
 -- `kept::insert_all` meets its contract.
 -- Assumes nothing.
 use Prim.Native.Nat.{_-_}
+use mathlib.Core.Path.{_∙_}
 use native.Mathlib.Omega.{arith}
 use borrow.Author.Needs.{needs}
 use lib.ListN.{length}
-use Rattle.kept.proofs.Loops.{Inserting, inserting-start, inserting-more, inserting-end}
+use Rattle.kept.proofs.Loops.{overlaid-length, Inserting, inserting-start, inserting-more, inserting-end}
 use Rattle.kept.proofs.insert_all.Statement.{statement}
 use Rattle.kept.proofs.insert_all.Tie as tie
 
@@ -28,6 +29,14 @@ shared-slice-read-insert c = omega arith
 insert-requires : tie.Need-insert-requires Inv-loop μ-loop
 insert-requires c κs = search needs
 
+same-length : tie.Need-same-length Inv-loop μ-loop
+same-length c =
+    let l = c .before .before .before .before .before .before .before .loop in
+    overlaid-length (c .before .before .before .insert .ensures) ∙ l .inv .size
+
+returns : tie.Need-returns Inv-loop μ-loop
+returns c h = absurd (omega (arith, c .if1 .taken))
+
 add-i : tie.Need-add-i Inv-loop μ-loop
 add-i c = omega arith
 
@@ -36,14 +45,14 @@ loop-less c = omega arith
 
 loop-again : tie.Need-loop-again Inv-loop μ-loop
 loop-again c =
-    let a = c .before .before .before .before .before .before .before .before .before .args in
-    inserting-more (a .kept .now) (a .count) (a .list .now) (c .before .before .before .before .before .before .loop .inv) (omega arith) (c .before .before .insert .ensures)
+    let a = c .before .before .before .before .before .before .before .before .before .before .args in
+    inserting-more (a .kept .now) (a .count) (a .list .now) (c .before .before .before .before .before .before .before .loop .inv) (omega arith) (c .before .before .before .insert .ensures) (c .if1 .left)
 
-same-length : tie.Need-same-length Inv-loop μ-loop
-same-length c = c .before .loop .inv .size
+same-length-2 : tie.Need-same-length-2 Inv-loop μ-loop
+same-length-2 c = c .before .loop .inv .size
 
-returns : tie.Need-returns Inv-loop μ-loop
-returns c =
+returns-2 : tie.Need-returns-2 Inv-loop μ-loop
+returns-2 c h =
     let a = c .before .before .before .before .args in
     inserting-end (a .kept .now) (a .count) (a .list .now) (c .before .loop .inv) (omega arith)
 
@@ -57,8 +66,10 @@ insert-all-spec =
     mul-insert
     shared-slice-read-insert
     insert-requires
+    same-length
+    returns
     add-i
     loop-less
     loop-again
-    same-length
-    returns)
+    same-length-2
+    returns-2)

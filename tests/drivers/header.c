@@ -1,0 +1,139 @@
+/* Tries what wizogbare.h says and no proof covers: its constants, NULL with length 0 on every call, and codes taken apart. */
+
+#include "../../include/wizogbare.h"
+
+#include <stdio.h>
+
+static int failed = 0;
+
+static void expect(int met, const char *what)
+{
+    if (!met) {
+        printf("header: %s\n", what);
+        failed = 1;
+    }
+}
+
+/* An abducible, and an atom without a clause; in the second book that is the goal. */
+static const uint8_t nothing_wanted[] = {1, 0, 0, 0, 10, 0, 2, 0, 1, 0, 0, 0, 0, 0, 0};
+static const uint8_t unexplained[] = {1, 0, 0, 0, 12, 0, 2, 0, 1, 0, 1, 0, 2, 0, 0, 0, 0};
+
+/* One abducible, which the goal wants; one that the goal wants false; one that the second of two constraints rules out. */
+static const uint8_t wanted[] = {1, 0, 0, 0, 12, 0, 1, 0, 1, 0, 1, 0, 0, 0, 0, 0, 0};
+static const uint8_t unwanted[] = {1, 0, 0, 0, 12, 0, 1, 0, 1, 0, 1, 0, 1, 0, 0, 0, 0};
+static const uint8_t forbidden[] = {1, 0, 0, 0, 22, 0, 1, 0, 1, 0, 0, 0, 0, 0, 2, 0, 4, 0, 1, 0, 1, 0, 4, 0, 1, 0, 0};
+
+/* One atom wanted, from either of two abducibles. */
+static const uint8_t either[] = {1, 0, 0, 0, 24, 0, 3, 0, 2, 0, 1, 0, 4, 0, 2, 0, 4, 0, 2, 0, 0, 0, 4, 0, 2, 0, 2, 0, 0};
+
+static uint64_t sets[WIZOGBARE_LONGEST_LIST + 1], lists[WIZOGBARE_LONGEST_LIST + 1];
+static uint32_t work[WIZOGBARE_WORK_NUMBERS];
+
+static const uint32_t BUDGET = 100;
+
+#define LIST(image, budget, sets, room) \
+    wizogbare_list(image, sizeof image, budget, sets, room, work, WIZOGBARE_WORK_NUMBERS)
+#define VERDICT(image, hypothesis, sets, room) \
+    wizogbare_verdict(image, sizeof image, hypothesis, BUDGET, sets, room, work, WIZOGBARE_WORK_NUMBERS)
+
+static void try_null(void)
+{
+    uint64_t empty = 0, code;
+    expect(wizogbare_read(NULL, 0) == WIZOGBARE_IMAGE_SHORT, "read of no image");
+    code = wizogbare_judge(NULL, 0, 0);
+    expect(wizogbare_judge_refusal(code) == WIZOGBARE_IMAGE_SHORT, "judge of no image");
+    code = wizogbare_list(NULL, 0, BUDGET, NULL, 0, NULL, 0);
+    expect(wizogbare_list_refusal(code) == WIZOGBARE_IMAGE_SHORT, "list of nothing");
+    code = wizogbare_list(wanted, sizeof wanted, BUDGET, NULL, 0, NULL, 0);
+    expect(wizogbare_list_refusal(code) == WIZOGBARE_WORK_SHORT, "list with no work area");
+    code = LIST(unexplained, BUDGET, NULL, 0);
+    expect(wizogbare_list_kind_of(code) == WIZOGBARE_LISTED, "list of no set in no room");
+    code = LIST(wanted, BUDGET, NULL, 0);
+    expect(wizogbare_list_refusal(code) == WIZOGBARE_NO_ROOM, "list of a set in no room");
+    code = wizogbare_verdict(NULL, 0, 0, BUDGET, NULL, 0, NULL, 0);
+    expect(wizogbare_verdict_refusal(code) == WIZOGBARE_IMAGE_SHORT, "verdict on nothing");
+    code = wizogbare_verdict(wanted, sizeof wanted, 0, BUDGET, NULL, 0, NULL, 0);
+    expect(wizogbare_verdict_refusal(code) == WIZOGBARE_WORK_SHORT, "verdict with no work area");
+    code = VERDICT(wanted, 0, NULL, 0);
+    expect(wizogbare_verdict_refusal(code) == WIZOGBARE_NO_ROOM, "verdict in no room");
+    expect(wizogbare_join(NULL, 0, NULL, 0, NULL, 0) == 0, "join of nothing");
+    expect(wizogbare_join(&empty, 1, NULL, 0, sets, 1) == 1, "join with no right list");
+    expect(wizogbare_join(NULL, 0, &empty, 1, sets, 1) == 1, "join with no left list");
+    code = wizogbare_join(&empty, 1, &empty, 1, NULL, 0);
+    expect(wizogbare_join_refusal(code) == WIZOGBARE_NO_ROOM, "join in no room");
+}
+
+static void try_constants(void)
+{
+    enum {
+        ROOM = WIZOGBARE_LONGEST_LIST,
+        TOO_LONG = WIZOGBARE_LONGEST_LIST + 1,
+        TOO_SHORT = WIZOGBARE_WORK_NUMBERS - 1,
+        TOO_LARGE = WIZOGBARE_LARGEST_BUDGET + 1
+    };
+    uint64_t code = LIST(wanted, WIZOGBARE_LARGEST_BUDGET, sets, ROOM);
+    expect(wizogbare_list_kind_of(code) == WIZOGBARE_LISTED, "the longest list, the largest budget");
+    code = LIST(wanted, BUDGET, sets, TOO_LONG);
+    expect(wizogbare_list_refusal(code) == WIZOGBARE_LIST_LONG, "a list too long");
+    code = wizogbare_list(wanted, sizeof wanted, BUDGET, sets, ROOM, work, TOO_SHORT);
+    expect(wizogbare_list_refusal(code) == WIZOGBARE_WORK_SHORT, "a work area too short");
+    code = LIST(wanted, TOO_LARGE, sets, ROOM);
+    expect(wizogbare_list_refusal(code) == WIZOGBARE_BUDGET_LARGE, "a budget too large");
+    code = LIST(wanted, 1, sets, ROOM);
+    expect(wizogbare_list_refusal(code) == WIZOGBARE_BUDGET_USED, "a budget used up");
+    code = wizogbare_join(lists, ROOM, lists, ROOM, sets, ROOM);
+    expect(wizogbare_join_kind_of(code) == WIZOGBARE_JOINED && wizogbare_join_count(code) == 1, "a join of the longest lists");
+    code = wizogbare_join(lists, TOO_LONG, lists, 0, sets, 1);
+    expect(wizogbare_join_refusal(code) == WIZOGBARE_LIST_LONG, "a left list too long");
+    code = wizogbare_join(lists, 0, lists, TOO_LONG, sets, 1);
+    expect(wizogbare_join_refusal(code) == WIZOGBARE_LIST_LONG, "a right list too long");
+    code = wizogbare_join(lists, 0, lists, 0, sets, TOO_LONG);
+    expect(wizogbare_join_refusal(code) == WIZOGBARE_LIST_LONG, "a third list too long");
+}
+
+static void try_answers(void)
+{
+    enum { ROOM = WIZOGBARE_LONGEST_LIST };
+    uint64_t code;
+    expect(wizogbare_read_kind_of(wizogbare_read(wanted, sizeof wanted)) == WIZOGBARE_ACCEPTED, "accepted");
+    code = wizogbare_judge(wanted, sizeof wanted, 1);
+    expect(wizogbare_judge_kind_of(code) == WIZOGBARE_EXPLAINS, "explains");
+    code = wizogbare_judge(nothing_wanted, sizeof nothing_wanted, 0);
+    expect(wizogbare_judge_kind_of(code) == WIZOGBARE_EXPLAINS, "explains an empty goal");
+    code = wizogbare_judge(wanted, sizeof wanted, 0);
+    expect(wizogbare_judge_kind_of(code) == WIZOGBARE_FALSE_GOAL, "a false goal");
+    expect(wizogbare_judge_place(code) == 0 && wizogbare_judge_refusal(code) == 0, "a false goal's place");
+    code = wizogbare_judge(forbidden, sizeof forbidden, 1);
+    expect(wizogbare_judge_kind_of(code) == WIZOGBARE_BROKEN_CONSTRAINT, "a broken constraint");
+    expect(wizogbare_judge_place(code) == 1 && wizogbare_judge_refusal(code) == 0, "a broken constraint's place");
+    code = wizogbare_judge(wanted, sizeof wanted, 2);
+    expect(wizogbare_judge_kind_of(code) == WIZOGBARE_JUDGE_REFUSED, "a judge's refusal");
+    expect(wizogbare_judge_refusal(code) == WIZOGBARE_ABDUCIBLE_UNKNOWN && wizogbare_judge_place(code) == 0, "its number");
+    code = LIST(either, BUDGET, sets, ROOM);
+    expect(wizogbare_list_kind_of(code) == WIZOGBARE_LISTED, "a listing");
+    expect(wizogbare_list_count(code) == 2 && wizogbare_list_nodes(code) == 5 && wizogbare_list_refusal(code) == 0, "its numbers");
+    expect(sets[0] == 1 && sets[1] == 2 && sets[2] == 0, "its sets");
+    code = LIST(either, BUDGET, sets, 1);
+    expect(wizogbare_list_kind_of(code) == WIZOGBARE_LIST_REFUSED, "a listing without room");
+    expect(wizogbare_list_refusal(code) == WIZOGBARE_NO_ROOM && wizogbare_list_count(code) == 0, "its refusal");
+    expect(wizogbare_list_nodes(code) == 5 && sets[0] == 0, "its nodes, and the list left 0");
+    expect(wizogbare_verdict_kind_of(VERDICT(wanted, 0, sets, ROOM)) == WIZOGBARE_NEEDED, "needed");
+    expect(wizogbare_verdict_kind_of(VERDICT(unwanted, 0, sets, ROOM)) == WIZOGBARE_RULED_OUT, "ruled out");
+    expect(wizogbare_verdict_kind_of(VERDICT(unexplained, 0, sets, ROOM)) == WIZOGBARE_UNEXPLAINED, "unexplained");
+    code = VERDICT(either, 1, sets, ROOM);
+    expect(wizogbare_verdict_kind_of(code) == WIZOGBARE_POSSIBLE, "possible");
+    expect(wizogbare_verdict_nodes(code) == 5 && wizogbare_verdict_refusal(code) == 0, "its nodes");
+    code = VERDICT(unexplained, 1, sets, ROOM);
+    expect(wizogbare_verdict_kind_of(code) == WIZOGBARE_VERDICT_REFUSED, "a verdict's refusal");
+    expect(wizogbare_verdict_refusal(code) == WIZOGBARE_ABDUCIBLE_UNKNOWN && wizogbare_verdict_nodes(code) == 0, "its number");
+}
+
+int main(void)
+{
+    try_null();
+    try_constants();
+    try_answers();
+    if (!failed)
+        printf("header: as stated\n");
+    return failed;
+}
