@@ -146,14 +146,14 @@ def try_refusals():
             refuses(f"{words[0]}, {number}", run(*words, given=damaged), f"refused {number}\n", "")
         for words in (["list", "-"], ["verdict", "-", "0"]):
             refuses(f"{words[0]}, {number}", run(*words, given=damaged), f"refused {number} nodes 0\n", "")
-    refuses("room", run("list", EXAMPLE, "--room", "1025"), "refused 20 nodes 0\n", "try --room")
-    refuses("a very large room", run("list", EXAMPLE, "--room", "4294967295"), "refused 20 nodes 0\n", "try --room")
-    refuses("budget", run("list", EXAMPLE, "--budget", "1000001"), "refused 22 nodes 0\n", "1,000,001 nodes")
-    refuses("set", run("judge", EXAMPLE, "0,3"), "refused 23\n", "numbered from 0")
-    refuses("hypothesis", run("verdict", EXAMPLE, "4294967295"), "refused 23 nodes 0\n", "numbered from 0")
-    refuses("budget used up", run("list", EXAMPLE, "--budget", "14"), "refused 30 nodes 14\n", "budget of 14 nodes is")
-    refuses("verdict, budget", run("verdict", EXAMPLE, "0", "--budget", "0"), "refused 30 nodes 0\n", "try --budget")
-    refuses("room used up", run("list", EXAMPLE, "--room", "1"), "refused 31 nodes 10\n", "try --room")
+    refuses("room", run("list", EXAMPLE, "--room", "1025"), "refused 20 nodes 0\n", "(--room, at most 1,024)")
+    refuses("a very large room", run("list", EXAMPLE, "--room", "4294967295"), "refused 20 nodes 0\n", "(--room, at most 1,024)")
+    refuses("budget", run("list", EXAMPLE, "--budget", "1000001"), "refused 22 nodes 0\n", "above 1,000,000")
+    refuses("set", run("judge", EXAMPLE, "0,3"), "refused 23\n", "from 0 to one below")
+    refuses("hypothesis", run("verdict", EXAMPLE, "4294967295"), "refused 23 nodes 0\n", "from 0 to one below")
+    refuses("budget used up", run("list", EXAMPLE, "--budget", "14"), "refused 30 nodes 14\n", "budget was used up")
+    refuses("verdict, budget", run("verdict", EXAMPLE, "0", "--budget", "0"), "refused 30 nodes 0\n", "(--budget, at most 1,000,000)")
+    refuses("room used up", run("list", EXAMPLE, "--room", "1"), "refused 31 nodes 10\n", "(--room, at most 1,024)")
 
 
 # ---- joining
@@ -177,7 +177,7 @@ def try_join(folder):
     answers("join with the empty set", run("join", left, "-", given=b"sets 1\n1: none\n"), "sets 1\n1: none\n")
     answers("join of nothing", run("join", "-", left, given=b"sets 0 nodes 4\n"), "sets 2\n1: 0\n2: 1\n")
     record("join --json", run("join", left, right, "--json"), {"answer": "joined", "sets": [[0], [1], [2]]})
-    refuses("join, room", run("join", left, right, "--room", "2"), "refused 31\n", "room of 2 ")
+    refuses("join, room", run("join", left, right, "--room", "2"), "refused 31\n", "no room")
     fails("join, both standard input", run("join", "-", "-"), "not both")
     fails("join, one file", run("join", left), "required: FILE")
     fails("join, three files", run("join", left, right, left), "takes two files")
@@ -191,7 +191,7 @@ def try_long_lists(folder):
     second.write_text(many(512, 512))
     note("join, 1,024 sets", run("join", first, second).out.startswith("sets 1024\n"), run("join", first, second))
     second.write_text(many(513, 512))
-    refuses("join, 1,025 sets", run("join", first, second), "refused 31\n", "room of 1,024 ")
+    refuses("join, 1,025 sets", run("join", first, second), "refused 31\n", "no room")
     second.write_text(many(1025, 0))
     refuses("join, a list too long", run("join", first, second), "refused 20\n", "at most 1,024 sets")
 
