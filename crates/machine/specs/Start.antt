@@ -17,7 +17,8 @@ use Rattle.image.specs.paper.Faults.{limits}
 use Rattle.image.specs.Shown.{goalAt, lits-at, clauseCountAt, Shown, shown}
 use Rattle.image.specs.Accepted.{within, orderly, IsBook, bookIn, book-in}
 use Rattle.sets.specs.paper.Kept.{longest}
-use Rattle.searching.specs.paper.Rules.{want, keep, root, on, gather, assumed, run, run-from}
+use Rattle.searching.specs.paper.Rules.{want, keep, root, on, gather, assumed, run-from}
+use Rattle.searching.specs.paper.Rules
 use Rattle.searching.specs.Bounds.{root-frames, root-named}
 use Rattle.area.specs.Lay.{of, behind-stays}
 use Rattle.tables.specs.Filling.{Filled}
@@ -37,29 +38,29 @@ rootRun clauses =
     record { state = AGENDA; task = 0; agenda = rootAgenda clauses; marked = layout.trail; top = layout.frames; nodes = 0; count = 0; set = 0 }
 
 -- What the start leaves.
-pub record Started (image work v : List ℕ) (r : Run) : Type 0 where
-  pub holds : (b : Book) → decode image ≡ accepted b → Holds image b v r (root b ∷ [])
-  pub state : r .state ≡ AGENDA
-  pub nodes : r .nodes ≡ 0
-  pub count : r .count ≡ 0
-  pub later : drop layout.end v ≡ drop layout.end work
+pub record Started (image work work′ : List ℕ) (run : Run) : Type 0 where
+  pub holds : (b : Book) → decode image ≡ accepted b → Holds image b work′ run (root b ∷ [])
+  pub state : run .state ≡ AGENDA
+  pub nodes : run .nodes ≡ 0
+  pub count : run .count ≡ 0
+  pub later : drop layout.end work′ ≡ drop layout.end work
 
-module _ (image work v : List ℕ) (f : Filled image work v) (clauses : ℕ) (g : clauses ≡ clauseCountAt image) where
+module _ (image work work′ : List ℕ) (f : Filled image work work′) (clauses : ℕ) (g : clauses ≡ clauseCountAt image) where
   abbrev its : Book
   its = bookIn image
 
-  agenda : Leads image its (of v) v 0 (rootAgenda clauses) (map want (its .goal) ++ map keep (its .constraints))
+  agenda : Leads image its (of work′) work′ 0 (rootAgenda clauses) (map want (its .goal) ++ map keep (its .constraints))
   unfolding clauseCountAt
   agenda =
       let sh : Shown image its = shown image its (f .ground .book) in
       go clauses (its .goal) (g ∙ ap (λ (n : ℕ). goalAt + 2 * n) (sh .goals)) (sh .goal)
     where
       go : (end : ℕ) (ls : List Lit) → end ≡ goalAt + 2 * length ls → Stands image goalAt (ofLits ls)
-          → Leads image its (of v) v 0 (rootAgenda end) (map want ls ++ map keep (its .constraints))
+          → Leads image its (of work′) work′ 0 (rootAgenda end) (map want ls ++ map keep (its .constraints))
       go end [] x st = Leads.linked (omega (arith, x)) (omega arith) (Tail.constraints-from 0 (omega arith))
       go end (l ∷ ls) x st =
           Leads.more
-          (subst (λ (ks : List Lit). Own image (of v) goalAt end (map want ks)) (lits-at image goalAt (l ∷ ls) st)
+          (subst (λ (ks : List Lit). Own image (of work′) goalAt end (map want ks)) (lits-at image goalAt (l ∷ ls) st)
           (Own.lits (length ls) (omega (arith, x)) (omega (arith, x, length-lits (l ∷ ls), stands-within (ofLit l) (ofLits ls) st))))
           (Tail.constraints-from 0 (omega arith))
 
@@ -77,9 +78,9 @@ module _ (image work v : List ℕ) (f : Filled image work v) (clauses : ℕ) (g 
       let fine : Within limits its = within image its (f .ground .book) in
       (omega (arith, root-frames its, fine .constraints, fine .atoms, fine .clauses), root-named its (orderly image its (f .ground .book)))
 
-  root-holds : Holds image its v (rootRun clauses) (root its ∷ [])
+  root-holds : Holds image its work′ (rootRun clauses) (root its ∷ [])
   root-holds = record {
-    tab = of v;
+    tab = of work′;
     height = 0;
     marks = 0;
     used = 0;
@@ -95,28 +96,28 @@ module _ (image work v : List ℕ) (f : Filled image work v) (clauses : ℕ) (g 
     hand = Hand.agenda agenda root-fine;
   }
 
-  pub started : (r : Run) → r ≡ rootRun clauses → Started image work v r
-  started r e = record {
-    holds = λ b i. subst₂ (λ (c : Book) (o : Run). Holds image c v o (root c ∷ [])) (book-in image b i) (sym e) root-holds;
+  pub started : (run : Run) → run ≡ rootRun clauses → Started image work work′ run
+  started run e = record {
+    holds = λ b i. subst₂ (λ (c : Book) (o : Run). Holds image c work′ o (root c ∷ [])) (book-in image b i) (sym e) root-holds;
     state = ap (λ (o : Run). o .state) e;
     nodes = ap (λ (o : Run). o .nodes) e;
     count = ap (λ (o : Run). o .count) e;
-    later = behind-stays work v layout.end (f .size) (λ j h. f .stays j (omega arith));
+    later = behind-stays work work′ layout.end (f .size) (λ j h. f .stays j (omega arith));
   }
 
 -- ---- the search begins at the root
 
-pub begins : (image : List ℕ) (budget : ℕ) (sets work v : List ℕ) (r : Run) → IsBook image → Started image work v r → length sets ≤ longest → Searching image budget sets v r
-begins image budget sets work v r i h n = record {
+pub begins : (image : List ℕ) (budget : ℕ) (sets work work′ : List ℕ) (run : Run) → IsBook image → Started image work work′ run → length sets ≤ longest → Searching image budget sets work′ run
+begins image budget sets work work′ run i h n = record {
   b = bookIn image;
   all = root (bookIn image) ∷ [];
   holds = h .holds (bookIn image) i;
   nodes = omega (arith, h .nodes);
   count = omega (arith, h .count);
   entries = n;
-  answer = start (r .nodes) (r .count) (h .nodes) (h .count);
+  answer = start (run .nodes) (run .count) (h .nodes) (h .count);
 }
   where
     start : (n c : ℕ) → n ≡ 0 → c ≡ 0
-        → run-from (bookIn image) (length sets) budget (root (bookIn image)) ≡ run (bookIn image) (length sets) (budget - n) (root (bookIn image) ∷ []) (take c sets) n
+        → run-from (bookIn image) (length sets) budget (root (bookIn image)) ≡ Rules.run (bookIn image) (length sets) (budget - n) (root (bookIn image) ∷ []) (take c sets) n
     start n c p q = rw (p, q, sub-zero)

@@ -11,7 +11,7 @@ use Rattle.base.specs.Bools.{choose-true, choose-false}
 use Rattle.image.specs.paper.Book.{Lit, Book}
 use Rattle.sets.specs.paper.Kept.{insert}
 use Rattle.image.specs.paper.Decode.{litOf}
-use Rattle.searching.specs.paper.Rules.{Task, want, pick, Node, root, children, after, assumed, finished, no-room, run, run-from}
+use Rattle.searching.specs.paper.Rules.{Task, want, pick, Node, root, children, after, assumed, finished, no-room, run-from}
 use Rattle.searching.specs.paper.Rules
 use Rattle.memory.specs.declared.run.Run.{Run}
 use Rattle.memory.specs.States.{TASK, AGENDA, LIST, WAY, FAILED, OVER, SPENT, Passing}
@@ -23,49 +23,49 @@ use Rattle.machine.specs.Contracts.{Onward, Placed, Searching, Ending, a
 
 -- ---- the rules' search, one node at a time
 
-run-none : (b : Book) (room k : ℕ) (kept : List ℕ) (n : ℕ) → run b room k [] kept n ≡ finished kept n
-unfolding run
+run-none : (b : Book) (room k : ℕ) (kept : List ℕ) (n : ℕ) → Rules.run b room k [] kept n ≡ finished kept n
+unfolding Rules.run
 run-none b room zero kept n = refl
 run-none b room (suc k) kept n = refl
 
-run-short : (b : Book) (room : ℕ) (x : Node) (later : List Node) (kept : List ℕ) (n : ℕ) → run b room 0 (x ∷ later) kept n ≡ Rules.used-up n
-unfolding run
+run-short : (b : Book) (room : ℕ) (x : Node) (later : List Node) (kept : List ℕ) (n : ℕ) → Rules.run b room 0 (x ∷ later) kept n ≡ Rules.used-up n
+unfolding Rules.run
 run-short b room x later kept n = refl
 
 -- a node with a task
 run-task : (b : Book) (room k : ℕ) (t : Task) (ts : List Task) (sheet : List Lit) (later : List Node) (kept : List ℕ) (n : ℕ) → length kept ≤ room
-    → run b room (suc k) (nodeOf (t ∷ ts) sheet ∷ later) kept n ≡ run b room k (children b (nodeOf (t ∷ ts) sheet) ++ later) kept (suc n)
-unfolding run Rules.noting
+    → Rules.run b room (suc k) (nodeOf (t ∷ ts) sheet ∷ later) kept n ≡ Rules.run b room k (children b (nodeOf (t ∷ ts) sheet) ++ later) kept (suc n)
+unfolding Rules.run Rules.noting
 run-task b room k t ts sheet later kept n h = choose-false _ _ (le-ltb room (length kept) h)
 
 -- a success
 run-room : (b : Book) (room k : ℕ) (sheet : List Lit) (later : List Node) (kept : List ℕ) (n : ℕ) → length (insert kept (assumed b sheet)) ≤ room
-    → run b room (suc k) (nodeOf [] sheet ∷ later) kept n ≡ run b room k later (insert kept (assumed b sheet)) (suc n)
-unfolding run Rules.noting after
+    → Rules.run b room (suc k) (nodeOf [] sheet ∷ later) kept n ≡ Rules.run b room k later (insert kept (assumed b sheet)) (suc n)
+unfolding Rules.run Rules.noting after
 run-room b room k sheet later kept n h = choose-false _ _ (le-ltb room (length (insert kept (assumed b sheet))) h)
 
 run-full : (b : Book) (room k : ℕ) (sheet : List Lit) (later : List Node) (kept : List ℕ) (n : ℕ) → room < length (insert kept (assumed b sheet))
-    → run b room (suc k) (nodeOf [] sheet ∷ later) kept n ≡ no-room (suc n)
-unfolding run Rules.noting after
+    → Rules.run b room (suc k) (nodeOf [] sheet ∷ later) kept n ≡ no-room (suc n)
+unfolding Rules.run Rules.noting after
 run-full b room k sheet later kept n h = choose-true _ _ (lt-ltb room (length (insert kept (assumed b sheet))) h)
 
 -- ---- from a state to the next
 
 -- a machine at work is not over
-working : {image : List ℕ} {b : Book} {work : List ℕ} {r : Run} {all : List Node} → Holds image b work r all → r .state ≡ OVER → ⊥
-working {r = r} {all} h e = go (in-hand h e)
+working : {image : List ℕ} {b : Book} {work : List ℕ} {run : Run} {all : List Node} → Holds image b work run all → run .state ≡ OVER → ⊥
+working {run = run} {all} h e = go (in-hand h e)
   where
-    go : HandIn h OVER (r .task) (r .agenda) all → ⊥
+    go : HandIn h OVER (run .task) (run .agenda) all → ⊥
     go = elim [ ]
 
-not-ended : (b : Book) (budget : ℕ) (sets : List ℕ) (r : Run) (n : ℕ) → Ending b budget sets r → r .state ≡ n → Passing n → ⊥
-not-ended b budget sets r n (all-visited e c a) i p = omega (arith, e, i)
-not-ended b budget sets r n (out-of-budget e a) i p = omega (arith, e, i)
-not-ended b budget sets r n (out-of-room e a) i p = omega (arith, e, i)
+not-ended : (b : Book) (budget : ℕ) (sets : List ℕ) (run : Run) (n : ℕ) → Ending b budget sets run → run .state ≡ n → Passing n → ⊥
+not-ended b budget sets run n (all-visited e c a) i p = omega (arith, e, i)
+not-ended b budget sets run n (out-of-budget e a) i p = omega (arith, e, i)
+not-ended b budget sets run n (out-of-room e a) i p = omega (arith, e, i)
 
 -- a move keeps the equation
-moved-on : (image : List ℕ) (budget : ℕ) (sets work : List ℕ) (r : Run) (v : List ℕ) (q : Run) (n : ℕ) → Moved image work r v q n → Searching image budget sets work r → Searching image budget sets v q
-moved-on image budget sets work r v q n m h = record {
+moved-on : (image : List ℕ) (budget : ℕ) (sets work : List ℕ) (run : Run) (work′ : List ℕ) (run′ : Run) (n : ℕ) → Moved image work run work′ run′ n → Searching image budget sets work run → Searching image budget sets work′ run′
+moved-on image budget sets work run work′ run′ n m h = record {
   b = h .b;
   all = h .all;
   holds = m .holds (h .b) (h .all) (h .holds);
@@ -74,60 +74,60 @@ moved-on image budget sets work r v q n m h = record {
   entries = h .entries;
   answer =
       h .answer
-      ∙ ap₂ (λ (n c : ℕ). run (h .b) (length sets) (budget - n) (h .all) (take c sets) n) (sym (m .nodes)) (sym (m .count));
+      ∙ ap₂ (λ (n c : ℕ). Rules.run (h .b) (length sets) (budget - n) (h .all) (take c sets) n) (sym (m .nodes)) (sym (m .count));
 }
 
 -- the state that a piece asks for
-pub somewhere-stands : (work : List ℕ) (r : Run) (n : ℕ) → Passing n → Somewhere work r n → r .state ≡ n → StandingIn work r n
-somewhere-stands work r n h p e = go (p .state)
+pub somewhere-stands : (work : List ℕ) (run : Run) (n : ℕ) → Passing n → Somewhere work run n → run .state ≡ n → StandingIn work run n
+somewhere-stands work run n h p e = go (p .state)
   where
-    go : State (p .image) (p .budget) (p .sets) work r n (p .low) → StandingIn work r n
+    go : State (p .image) (p .budget) (p .sets) work run n (p .low) → StandingIn work run n
     go (goes-on x i k) = (p .image, record { b = x .b; all = x .all; holds = x .holds; state = e })
-    go (ended b i x k) = absurd (not-ended b (p .budget) (p .sets) r n x e h)
+    go (ended b i x k) = absurd (not-ended b (p .budget) (p .sets) run n x e h)
 
-pub passes-moved : (work : List ℕ) (r : Run) (m : ℕ) (v : List ℕ) (q : Run) (n : ℕ) → Passing m → r .state ≡ m → Moves work r v q n → Passes work r m v q n
-passes-moved work r m v q n h e f = record {
+pub passes-moved : (work : List ℕ) (run : Run) (m : ℕ) (work′ : List ℕ) (run′ : Run) (n : ℕ) → Passing m → run .state ≡ m → Moves work run work′ run′ n → Passes work run m work′ run′ n
+passes-moved work run m work′ run′ n h e f = record {
   next = λ image budget sets low x. go image budget sets low x;
   later = f [] .later;
 }
   where
-    go : (image : List ℕ) (budget : ℕ) (sets : List ℕ) (low : ℕ) → State image budget sets work r m low → State image budget sets v q n low
-    go image budget sets low (goes-on x i k) = goes-on (moved-on image budget sets work r v q n (f image) x) (f image .state) (omega (arith, f image .nodes))
-    go image budget sets low (ended b i x k) = absurd (not-ended b budget sets r m x e h)
+    go : (image : List ℕ) (budget : ℕ) (sets : List ℕ) (low : ℕ) → State image budget sets work run m low → State image budget sets work′ run′ n low
+    go image budget sets low (goes-on x i k) = goes-on (moved-on image budget sets work run work′ run′ n (f image) x) (f image .state) (omega (arith, f image .nodes))
+    go image budget sets low (ended b i x k) = absurd (not-ended b budget sets run m x e h)
 
-pub passes-same : (work : List ℕ) (r : Run) (m n : ℕ) → m ≡ suc n → (r .state ≡ m → ⊥) → Passes work r m work r n
-passes-same work r m n j e = record { next = λ image budget sets low x. go image budget sets low x; later = refl }
+pub passes-same : (work : List ℕ) (run : Run) (m n : ℕ) → m ≡ suc n → (run .state ≡ m → ⊥) → Passes work run m work run n
+passes-same work run m n j e = record { next = λ image budget sets low x. go image budget sets low x; later = refl }
   where
-    go : (image : List ℕ) (budget : ℕ) (sets : List ℕ) (low : ℕ) → State image budget sets work r m low → State image budget sets work r n low
+    go : (image : List ℕ) (budget : ℕ) (sets : List ℕ) (low : ℕ) → State image budget sets work run m low → State image budget sets work run n low
     go image budget sets low (goes-on x i k) = goes-on x (omega (arith, e)) k
     go image budget sets low (ended b i x k) = ended b i x k
 
 -- a way more for `back`: nothing is left
-pub passes-backed : (work : List ℕ) (r : Run) (v : List ℕ) (q : Run) → r .state ≡ FAILED → Backed work r v q → Passes work r FAILED v q WAY
-passes-backed work r v q e (back-to f) = record {
+pub passes-backed : (work : List ℕ) (run : Run) (work′ : List ℕ) (run′ : Run) → run .state ≡ FAILED → Backed work run work′ run′ → Passes work run FAILED work′ run′ WAY
+passes-backed work run work′ run′ e (back-to f) = record {
   next = λ image budget sets low x. go image budget sets low x;
   later = f [] .later;
 }
   where
-    go : (image : List ℕ) (budget : ℕ) (sets : List ℕ) (low : ℕ) → State image budget sets work r FAILED low → State image budget sets v q WAY low
-    go image budget sets low (goes-on x i k) = goes-on (moved-on image budget sets work r v q LIST (f image) x) (omega (arith, f image .state)) (omega (arith, f image .nodes))
-    go image budget sets low (ended b i x k) = absurd (not-ended b budget sets r FAILED x e (omega arith, omega arith))
-passes-backed work r v q e (over f j p) =
-    subst (λ (l : List ℕ). Passes work r FAILED l q WAY) (sym j)
-    (subst (λ (o : Run). Passes work r FAILED work o WAY) (sym p) (record { next = λ image budget sets low x. go image budget sets low x; later = refl }))
+    go : (image : List ℕ) (budget : ℕ) (sets : List ℕ) (low : ℕ) → State image budget sets work run FAILED low → State image budget sets work′ run′ WAY low
+    go image budget sets low (goes-on x i k) = goes-on (moved-on image budget sets work run work′ run′ LIST (f image) x) (omega (arith, f image .state)) (omega (arith, f image .nodes))
+    go image budget sets low (ended b i x k) = absurd (not-ended b budget sets run FAILED x e (omega arith, omega arith))
+passes-backed work run work′ run′ e (over f j p) =
+    subst (λ (l : List ℕ). Passes work run FAILED l run′ WAY) (sym j)
+    (subst (λ (o : Run). Passes work run FAILED work o WAY) (sym p) (record { next = λ image budget sets low x. go image budget sets low x; later = refl }))
   where
-    go : (image : List ℕ) (budget : ℕ) (sets : List ℕ) (low : ℕ) → State image budget sets work r FAILED low → State image budget sets work (inState r OVER) WAY low
+    go : (image : List ℕ) (budget : ℕ) (sets : List ℕ) (low : ℕ) → State image budget sets work run FAILED low → State image budget sets work (inState run OVER) WAY low
     go image budget sets low (goes-on x i k) =
         let none : x .all ≡ [] = f image (x .b) (x .all) (x .holds) in
-        let o : run-from (x .b) (length sets) budget (root (x .b)) ≡ finished (take (r .count) sets) (r .nodes) =
-        x .answer ∙ ap (λ (l : List Node). run (x .b) (length sets) (budget - r .nodes) l (take (r .count) sets) (r .nodes)) none
-        ∙ run-none (x .b) (length sets) (budget - r .nodes) (take (r .count) sets) (r .nodes) in
+        let o : run-from (x .b) (length sets) budget (root (x .b)) ≡ finished (take (run .count) sets) (run .nodes) =
+        x .answer ∙ ap (λ (l : List Node). Rules.run (x .b) (length sets) (budget - run .nodes) l (take (run .count) sets) (run .nodes)) none
+        ∙ run-none (x .b) (length sets) (budget - run .nodes) (take (run .count) sets) (run .nodes) in
         ended (x .b) (x .holds .ground .book) (all-visited refl (x .count) o) (omega arith)
-    go image budget sets low (ended b i x k) = absurd (not-ended b budget sets r FAILED x e (omega arith, omega arith))
+    go image budget sets low (ended b i x k) = absurd (not-ended b budget sets run FAILED x e (omega arith, omega arith))
 
 -- ---- a node
 
-module _ (image : List ℕ) (budget : ℕ) (sets work : List ℕ) (r : Run) (h : Searching image budget sets work r) (st : r .state ≡ TASK) where
+module _ (image : List ℕ) (budget : ℕ) (sets work : List ℕ) (run : Run) (h : Searching image budget sets work run) (st : run .state ≡ TASK) where
   -- what is due begins with the node in hand
   record Due : Type 0 where
     x : Node
@@ -137,59 +137,59 @@ module _ (image : List ℕ) (budget : ℕ) (sets work : List ℕ) (r : Run) (h :
   due-node : Due
   due-node = go (in-hand (h .holds) st) refl
     where
-      go : {xs : List Node} → HandIn (h .holds) TASK (r .task) (r .agenda) xs → h .all ≡ xs → Due
-      go (literal {ts} l a f) i = record { x = nodeOf (want (litOf (r .task)) ∷ ts) (h .holds .sheet); rest = h .holds .due; is = i }
+      go : {xs : List Node} → HandIn (h .holds) TASK (run .task) (run .agenda) xs → h .all ≡ xs → Due
+      go (literal {ts} l a f) i = record { x = nodeOf (want (litOf (run .task)) ∷ ts) (h .holds .sheet); rest = h .holds .due; is = i }
       go (record-at {lss} {ts} p q c a f) i = record { x = nodeOf (pick lss ∷ ts) (h .holds .sheet); rest = h .holds .due; is = i }
       go (last p q c) i = record { x = nodeOf [] (h .holds .sheet); rest = h .holds .due; is = i }
 
-  at-node : Holds image (h .b) work r (due-node .x ∷ due-node .rest)
-  at-node = subst (Holds image (h .b) work r) (due-node .is) (h .holds)
+  at-node : Holds image (h .b) work run (due-node .x ∷ due-node .rest)
+  at-node = subst (Holds image (h .b) work run) (due-node .is) (h .holds)
 
-  at-counted : Holds image (h .b) work (counting r) (due-node .x ∷ due-node .rest)
+  at-counted : Holds image (h .b) work (counting run) (due-node .x ∷ due-node .rest)
   at-counted = counting-holds at-node
 
-  pub searching-tasked : Tasked work r
+  pub searching-tasked : Tasked work run
   searching-tasked = record { image = image; b = h .b; x = due-node .x; rest = due-node .rest; holds = at-node; state = st }
 
-  before : (r .nodes ≡ budget → ⊥) → r .nodes < budget
+  before : (run .nodes ≡ budget → ⊥) → run .nodes < budget
   before n = omega (arith, n, h .nodes)
 
   -- the rules' search, with one node more to visit
-  start : (r .nodes ≡ budget → ⊥)
-      → run-from (h .b) (length sets) budget (root (h .b)) ≡ run (h .b) (length sets) (suc (budget - (r .nodes + 1))) (due-node .x ∷ due-node .rest) (take (r .count) sets) (r .nodes)
+  start : (run .nodes ≡ budget → ⊥)
+      → run-from (h .b) (length sets) budget (root (h .b)) ≡ Rules.run (h .b) (length sets) (suc (budget - (run .nodes + 1))) (due-node .x ∷ due-node .rest) (take (run .count) sets) (run .nodes)
   start n =
-      let left : budget - r .nodes ≡ suc (budget - (r .nodes + 1)) = omega (arith, before n) in
-      h .answer ∙ ap₂ (λ (k : ℕ) (l : List Node). run (h .b) (length sets) k l (take (r .count) sets) (r .nodes)) left (due-node .is)
+      let left : budget - run .nodes ≡ suc (budget - (run .nodes + 1)) = omega (arith, before n) in
+      h .answer ∙ ap₂ (λ (k : ℕ) (l : List Node). Rules.run (h .b) (length sets) k l (take (run .count) sets) (run .nodes)) left (due-node .is)
 
-  one-more : suc (r .nodes) ≡ r .nodes + 1
+  one-more : suc (run .nodes) ≡ run .nodes + 1
   one-more = omega arith
 
-  went-short : r .nodes ≡ budget → State image budget sets work (inState r SPENT) FAILED (suc (r .nodes))
+  went-short : run .nodes ≡ budget → State image budget sets work (inState run SPENT) FAILED (suc (run .nodes))
   went-short n =
-      let spent : budget - r .nodes ≡ 0 = omega (arith, n) in
-      let o : run-from (h .b) (length sets) budget (root (h .b)) ≡ Rules.used-up (r .nodes) =
-      h .answer ∙ ap₂ (λ (k : ℕ) (l : List Node). run (h .b) (length sets) k l (take (r .count) sets) (r .nodes)) spent (due-node .is)
-      ∙ run-short (h .b) (length sets) (due-node .x) (due-node .rest) (take (r .count) sets) (r .nodes) in
+      let spent : budget - run .nodes ≡ 0 = omega (arith, n) in
+      let o : run-from (h .b) (length sets) budget (root (h .b)) ≡ Rules.used-up (run .nodes) =
+      h .answer ∙ ap₂ (λ (k : ℕ) (l : List Node). Rules.run (h .b) (length sets) k l (take (run .count) sets) (run .nodes)) spent (due-node .is)
+      ∙ run-short (h .b) (length sets) (due-node .x) (due-node .rest) (take (run .count) sets) (run .nodes) in
       ended (h .b) (h .holds .ground .book) (out-of-budget refl o) (omega arith)
 
   run-some : (x : Node) (rest : List Node) (m : ℕ) (kept : List ℕ) (n : ℕ) → (x .agenda ≡ [] → ⊥) → length kept ≤ length sets
-      → run (h .b) (length sets) (suc m) (x ∷ rest) kept n ≡ run (h .b) (length sets) m (children (h .b) x ++ rest) kept (suc n)
+      → Rules.run (h .b) (length sets) (suc m) (x ∷ rest) kept n ≡ Rules.run (h .b) (length sets) m (children (h .b) x ++ rest) kept (suc n)
   run-some x rest m kept n f g = go (x .agenda) refl
     where
-      go : (ts : List Task) → x .agenda ≡ ts → run (h .b) (length sets) (suc m) (x ∷ rest) kept n ≡ run (h .b) (length sets) m (children (h .b) x ++ rest) kept (suc n)
+      go : (ts : List Task) → x .agenda ≡ ts → Rules.run (h .b) (length sets) (suc m) (x ∷ rest) kept n ≡ Rules.run (h .b) (length sets) m (children (h .b) x ++ rest) kept (suc n)
       go [] e = absurd (f e)
       go (t ∷ ts) e =
           let is : x ≡ nodeOf (t ∷ ts) (x .sheet) = ap (λ (l : List Task). nodeOf l (x .sheet)) e in
-          subst (λ (y : Node). run (h .b) (length sets) (suc m) (y ∷ rest) kept n ≡ run (h .b) (length sets) m (children (h .b) y ++ rest) kept (suc n)) (sym is)
+          subst (λ (y : Node). Rules.run (h .b) (length sets) (suc m) (y ∷ rest) kept n ≡ Rules.run (h .b) (length sets) m (children (h .b) y ++ rest) kept (suc n)) (sym is)
           (run-task (h .b) (length sets) m t ts (x .sheet) rest kept n g)
 
-  went-task : (v : List ℕ) (q : Run) → (r .nodes ≡ budget → ⊥) → Visited work (counting r) v q → State image budget sets v q FAILED (suc (r .nodes))
-  went-task v q n a =
-      let kept : length (take (r .count) sets) ≤ length sets = omega (arith, length-take (r .count) sets) in
-      let o : run-from (h .b) (length sets) budget (root (h .b)) ≡ run (h .b) (length sets) (budget - q .nodes) (children (h .b) (due-node .x) ++ due-node .rest) (take (q .count) sets) (q .nodes) =
+  went-task : (work′ : List ℕ) (run′ : Run) → (run .nodes ≡ budget → ⊥) → Visited work (counting run) work′ run′ → State image budget sets work′ run′ FAILED (suc (run .nodes))
+  went-task work′ run′ n a =
+      let kept : length (take (run .count) sets) ≤ length sets = omega (arith, length-take (run .count) sets) in
+      let o : run-from (h .b) (length sets) budget (root (h .b)) ≡ Rules.run (h .b) (length sets) (budget - run′ .nodes) (children (h .b) (due-node .x) ++ due-node .rest) (take (run′ .count) sets) (run′ .nodes) =
       start n
-      ∙ run-some (due-node .x) (due-node .rest) (budget - (r .nodes + 1)) (take (r .count) sets) (r .nodes) (a .some image (h .b) (due-node .x) (due-node .rest) at-counted) kept
-      ∙ same (children (h .b) (due-node .x) ++ due-node .rest) (q .nodes) (q .count) (omega (arith, a .nodes)) (omega (arith, a .nodes)) (sym (a .count)) in
+      ∙ run-some (due-node .x) (due-node .rest) (budget - (run .nodes + 1)) (take (run .count) sets) (run .nodes) (a .some image (h .b) (due-node .x) (due-node .rest) at-counted) kept
+      ∙ same (children (h .b) (due-node .x) ++ due-node .rest) (run′ .nodes) (run′ .count) (omega (arith, a .nodes)) (omega (arith, a .nodes)) (sym (a .count)) in
       goes-on
       (record {
         b = h .b;
@@ -202,42 +202,42 @@ module _ (image : List ℕ) (budget : ℕ) (sets work : List ℕ) (r : Run) (h :
       })
       (a .state) (omega (arith, a .nodes))
     where
-      same : (l : List Node) (m c : ℕ) → budget - (r .nodes + 1) ≡ budget - m → suc (r .nodes) ≡ m → r .count ≡ c
-          → run (h .b) (length sets) (budget - (r .nodes + 1)) l (take (r .count) sets) (suc (r .nodes)) ≡ run (h .b) (length sets) (budget - m) l (take c sets) m
+      same : (l : List Node) (m c : ℕ) → budget - (run .nodes + 1) ≡ budget - m → suc (run .nodes) ≡ m → run .count ≡ c
+          → Rules.run (h .b) (length sets) (budget - (run .nodes + 1)) l (take (run .count) sets) (suc (run .nodes)) ≡ Rules.run (h .b) (length sets) (budget - m) l (take c sets) m
       same l m c p q i = rw (p, q, i)
 
-  went-success : (after : List ℕ) (q : Run) → (r .nodes ≡ budget → ⊥) → Success work (counting r) → SuccessKept sets (counting r) after q → State image budget after work q FAILED (suc (r .nodes))
-  went-success after q n a c = go c
+  went-success : (after : List ℕ) (run′ : Run) → (run .nodes ≡ budget → ⊥) → Success work (counting run) → SuccessKept sets (counting run) after run′ → State image budget after work run′ FAILED (suc (run .nodes))
+  went-success after run′ n a c = go c
     where
       node : due-node .x ≡ nodeOf [] (due-node .x .sheet)
       node = ap (λ (l : List Task). nodeOf l (due-node .x .sheet)) (a .ends image (h .b) (due-node .x) (due-node .rest) at-counted)
 
       begin : run-from (h .b) (length sets) budget (root (h .b))
-          ≡ run (h .b) (length sets) (suc (budget - (r .nodes + 1))) (nodeOf [] (due-node .x .sheet) ∷ due-node .rest) (take (r .count) sets) (r .nodes)
-      begin = start n ∙ ap (λ (y : Node). run (h .b) (length sets) (suc (budget - (r .nodes + 1))) (y ∷ due-node .rest) (take (r .count) sets) (r .nodes)) node
+          ≡ Rules.run (h .b) (length sets) (suc (budget - (run .nodes + 1))) (nodeOf [] (due-node .x .sheet) ∷ due-node .rest) (take (run .count) sets) (run .nodes)
+      begin = start n ∙ ap (λ (y : Node). Rules.run (h .b) (length sets) (suc (budget - (run .nodes + 1))) (y ∷ due-node .rest) (take (run .count) sets) (run .nodes)) node
 
-      chosen : insert (take (r .count) sets) (r .set) ≡ insert (take (r .count) sets) (assumed (h .b) (due-node .x .sheet))
-      chosen = ap (insert (take (r .count) sets)) (a .chosen image (h .b) (due-node .x) (due-node .rest) at-counted)
+      chosen : insert (take (run .count) sets) (run .set) ≡ insert (take (run .count) sets) (assumed (h .b) (due-node .x .sheet))
+      chosen = ap (insert (take (run .count) sets)) (a .chosen image (h .b) (due-node .x) (due-node .rest) at-counted)
 
-      go : SuccessKept sets (counting r) after q → State image budget after work q FAILED (suc (r .nodes))
+      go : SuccessKept sets (counting run) after run′ → State image budget after work run′ FAILED (suc (run .nodes))
       go (full p l i) =
-          let o : run-from (h .b) (length sets) budget (root (h .b)) ≡ no-room (suc (r .nodes)) =
+          let o : run-from (h .b) (length sets) budget (root (h .b)) ≡ no-room (suc (run .nodes)) =
           begin
-          ∙ run-full (h .b) (length sets) (budget - (r .nodes + 1)) (due-node .x .sheet) (due-node .rest) (take (r .count) sets) (r .nodes) (subst (λ (z : List ℕ). length sets < length z) chosen p) in
-          let o′ : run-from (h .b) (length after) budget (root (h .b)) ≡ no-room (r .nodes + 1) =
+          ∙ run-full (h .b) (length sets) (budget - (run .nodes + 1)) (due-node .x .sheet) (due-node .rest) (take (run .count) sets) (run .nodes) (subst (λ (z : List ℕ). length sets < length z) chosen p) in
+          let o′ : run-from (h .b) (length after) budget (root (h .b)) ≡ no-room (run .nodes + 1) =
           ap (λ (m : ℕ). run-from (h .b) m budget (root (h .b))) l ∙ o ∙ ap no-room one-more in
-          subst (λ (p : Run). State image budget after work p FAILED (suc (r .nodes))) (sym i)
+          subst (λ (p : Run). State image budget after work p FAILED (suc (run .nodes))) (sym i)
           (ended (h .b) (h .holds .ground .book) (out-of-room refl o′) (omega arith))
       go (inserted m c p t l i) =
           let o : run-from (h .b) (length sets) budget (root (h .b))
-          ≡ run (h .b) (length sets) (budget - (r .nodes + 1)) (due-node .rest) (insert (take (r .count) sets) (assumed (h .b) (due-node .x .sheet))) (suc (r .nodes)) =
+          ≡ Rules.run (h .b) (length sets) (budget - (run .nodes + 1)) (due-node .rest) (insert (take (run .count) sets) (assumed (h .b) (due-node .x .sheet))) (suc (run .nodes)) =
           begin
-          ∙ run-room (h .b) (length sets) (budget - (r .nodes + 1)) (due-node .x .sheet) (due-node .rest) (take (r .count) sets) (r .nodes) (omega (arith, c, p, ap length chosen)) in
-          let o′ : run-from (h .b) (length after) budget (root (h .b)) ≡ run (h .b) (length after) (budget - (r .nodes + 1)) (due-node .rest) (take m after) (r .nodes + 1) =
+          ∙ run-room (h .b) (length sets) (budget - (run .nodes + 1)) (due-node .x .sheet) (due-node .rest) (take (run .count) sets) (run .nodes) (omega (arith, c, p, ap length chosen)) in
+          let o′ : run-from (h .b) (length after) budget (root (h .b)) ≡ Rules.run (h .b) (length after) (budget - (run .nodes + 1)) (due-node .rest) (take m after) (run .nodes + 1) =
           ap (λ (z : ℕ). run-from (h .b) z budget (root (h .b))) l ∙ o
-          ∙ ap₂ (λ (z : List ℕ) (y : ℕ). run (h .b) (length sets) (budget - (r .nodes + 1)) (due-node .rest) z y) (sym (t ∙ chosen)) one-more
-          ∙ ap (λ (z : ℕ). run (h .b) z (budget - (r .nodes + 1)) (due-node .rest) (take m after) (r .nodes + 1)) (sym l) in
-          subst (λ (p : Run). State image budget after work p FAILED (suc (r .nodes))) (sym i)
+          ∙ ap₂ (λ (z : List ℕ) (y : ℕ). Rules.run (h .b) (length sets) (budget - (run .nodes + 1)) (due-node .rest) z y) (sym (t ∙ chosen)) one-more
+          ∙ ap (λ (z : ℕ). Rules.run (h .b) z (budget - (run .nodes + 1)) (due-node .rest) (take m after) (run .nodes + 1)) (sym l) in
+          subst (λ (p : Run). State image budget after work p FAILED (suc (run .nodes))) (sym i)
           (goes-on
           (record {
             b = h .b;
@@ -250,78 +250,78 @@ module _ (image : List ℕ) (budget : ℕ) (sets work : List ℕ) (r : Run) (h :
           })
           (omega arith) (omega arith))
 
-  pub stepped-visit : (after v : List ℕ) (q : Run) → Went budget sets work r after v q → Stepped image budget sets work r after v q FAILED
-  stepped-visit after v q (Went.used-up n i j e) =
-      subst (λ (l : List ℕ). Stepped image budget sets work r l v q FAILED) (sym i)
-      (subst (λ (l : List ℕ). Stepped image budget sets work r sets l q FAILED) (sym j)
-      (subst (λ (o : Run). Stepped image budget sets work r sets work o FAILED) (sym e) (record { next = went-short n; later = refl })))
-  stepped-visit after v q (visits n a i) =
-      subst (λ (l : List ℕ). Stepped image budget sets work r l v q FAILED) (sym i) (record { next = went-task v q n a; later = a .later })
-  stepped-visit after v q (Went.succeeds n a c j) =
-      subst (λ (l : List ℕ). Stepped image budget sets work r after l q FAILED) (sym j) (record { next = went-success after q n a c; later = refl })
+  pub stepped-visit : (after work′ : List ℕ) (run′ : Run) → Went budget sets work run after work′ run′ → Stepped image budget sets work run after work′ run′ FAILED
+  stepped-visit after work′ run′ (Went.used-up n i j e) =
+      subst (λ (l : List ℕ). Stepped image budget sets work run l work′ run′ FAILED) (sym i)
+      (subst (λ (l : List ℕ). Stepped image budget sets work run sets l run′ FAILED) (sym j)
+      (subst (λ (o : Run). Stepped image budget sets work run sets work o FAILED) (sym e) (record { next = went-short n; later = refl })))
+  stepped-visit after work′ run′ (visits n a i) =
+      subst (λ (l : List ℕ). Stepped image budget sets work run l work′ run′ FAILED) (sym i) (record { next = went-task work′ run′ n a; later = a .later })
+  stepped-visit after work′ run′ (Went.succeeds n a c j) =
+      subst (λ (l : List ℕ). Stepped image budget sets work run after l run′ FAILED) (sym j) (record { next = went-success after run′ n a c; later = refl })
 
 -- ---- a step
 
-module _ {image : List ℕ} {budget : ℕ} {sets work : List ℕ} {r : Run} where
-  pub stepped-somewhere : {after v : List ℕ} {q : Run} {n : ℕ} → Stepped image budget sets work r after v q n → Somewhere v q n
-  stepped-somewhere {after} p = record { image = image; budget = budget; sets = after; low = suc (r .nodes); state = p .next }
+module _ {image : List ℕ} {budget : ℕ} {sets work : List ℕ} {run : Run} where
+  pub stepped-somewhere : {after work′ : List ℕ} {run′ : Run} {n : ℕ} → Stepped image budget sets work run after work′ run′ n → Somewhere work′ run′ n
+  stepped-somewhere {after} p = record { image = image; budget = budget; sets = after; low = suc (run .nodes); state = p .next }
 
-  pub stepped-passes : {after v u : List ℕ} {q o : Run} {m n : ℕ} → Stepped image budget sets work r after v q m → Passes v q m u o n → Stepped image budget sets work r after u o n
-  stepped-passes {after} p x = record { next = x .next image budget after (suc (r .nodes)) (p .next); later = x .later ∙ p .later }
+  pub stepped-passes : {after work′ work″ : List ℕ} {run′ run″ : Run} {m n : ℕ} → Stepped image budget sets work run after work′ run′ m → Passes work′ run′ m work″ run″ n → Stepped image budget sets work run after work″ run″ n
+  stepped-passes {after} p x = record { next = x .next image budget after (suc (run .nodes)) (p .next); later = x .later ∙ p .later }
 
-pub placed-standing : (image work : List ℕ) (r : Run) → Placed image work r AGENDA → r .state ≡ AGENDA → Standing image work r AGENDA
-placed-standing image work r p e = go (p .state)
+pub placed-standing : (image work : List ℕ) (run : Run) → Placed image work run AGENDA → run .state ≡ AGENDA → Standing image work run AGENDA
+placed-standing image work run p e = go (p .state)
   where
-    go : State image (p .budget) (p .sets) work r AGENDA (p .low) → Standing image work r AGENDA
+    go : State image (p .budget) (p .sets) work run AGENDA (p .low) → Standing image work run AGENDA
     go (goes-on x i k) = record { b = x .b; all = x .all; holds = x .holds; state = e }
-    go (ended b i x k) = absurd (not-ended b (p .budget) (p .sets) r AGENDA x e (omega arith, omega arith))
+    go (ended b i x k) = absurd (not-ended b (p .budget) (p .sets) run AGENDA x e (omega arith, omega arith))
 
-pub onward-moved : (image work : List ℕ) (r q : Run) → r .state ≡ AGENDA → Moved image work r work q TASK → Onward image work r q
-onward-moved image work r q e m = record { next = λ budget sets low x. go budget sets low x }
+pub onward-moved : (image work : List ℕ) (run run′ : Run) → run .state ≡ AGENDA → Moved image work run work run′ TASK → Onward image work run run′
+onward-moved image work run run′ e m = record { next = λ budget sets low x. go budget sets low x }
   where
-    go : (budget : ℕ) (sets : List ℕ) (low : ℕ) → State image budget sets work r AGENDA low → State image budget sets work q TASK low
-    go budget sets low (goes-on x i k) = goes-on (moved-on image budget sets work r work q TASK m x) (m .state) (omega (arith, m .nodes))
-    go budget sets low (ended b i x k) = absurd (not-ended b budget sets r AGENDA x e (omega arith, omega arith))
+    go : (budget : ℕ) (sets : List ℕ) (low : ℕ) → State image budget sets work run AGENDA low → State image budget sets work run′ TASK low
+    go budget sets low (goes-on x i k) = goes-on (moved-on image budget sets work run work run′ TASK m x) (m .state) (omega (arith, m .nodes))
+    go budget sets low (ended b i x k) = absurd (not-ended b budget sets run AGENDA x e (omega arith, omega arith))
 
-pub onward-same : (image work : List ℕ) (r : Run) → (r .state ≡ AGENDA → ⊥) → Onward image work r r
-onward-same image work r e = record { next = λ budget sets low x. go budget sets low x }
+pub onward-same : (image work : List ℕ) (run : Run) → (run .state ≡ AGENDA → ⊥) → Onward image work run run
+onward-same image work run e = record { next = λ budget sets low x. go budget sets low x }
   where
-    go : (budget : ℕ) (sets : List ℕ) (low : ℕ) → State image budget sets work r AGENDA low → State image budget sets work r TASK low
+    go : (budget : ℕ) (sets : List ℕ) (low : ℕ) → State image budget sets work run AGENDA low → State image budget sets work run TASK low
     go budget sets low (goes-on x i k) =
-        let one : r .state ≡ OVER → ⊥ = working (x .holds) in
+        let one : run .state ≡ OVER → ⊥ = working (x .holds) in
         goes-on x (omega (arith, e, one)) k
     go budget sets low (ended b i x k) = ended b i x k
 
-pub stepped-placed : {image : List ℕ} {budget : ℕ} {sets work after v : List ℕ} {r q : Run} {n : ℕ} → Stepped image budget sets work r after v q n → Placed image v q n
-stepped-placed {budget = budget} {after = after} {r = r} p = record { budget = budget; sets = after; low = suc (r .nodes); state = p .next }
+pub stepped-placed : {image : List ℕ} {budget : ℕ} {sets work after work′ : List ℕ} {run run′ : Run} {n : ℕ} → Stepped image budget sets work run after work′ run′ n → Placed image work′ run′ n
+stepped-placed {budget = budget} {after = after} {run = run} p = record { budget = budget; sets = after; low = suc (run .nodes); state = p .next }
 
-pub stepped-onward : {image : List ℕ} {budget : ℕ} {sets work after v : List ℕ} {r q o : Run} → Stepped image budget sets work r after v q AGENDA → Onward image v q o → Stepped image budget sets work r after v o TASK
-stepped-onward {budget = budget} {after = after} {r = r} p x = record { next = x .next budget after (suc (r .nodes)) (p .next); later = p .later }
+pub stepped-onward : {image : List ℕ} {budget : ℕ} {sets work after work′ : List ℕ} {run run′ run″ : Run} → Stepped image budget sets work run after work′ run′ AGENDA → Onward image work′ run′ run″ → Stepped image budget sets work run after work′ run″ TASK
+stepped-onward {budget = budget} {after = after} {run = run} p x = record { next = x .next budget after (suc (run .nodes)) (p .next); later = p .later }
 
 -- ---- the whole
 
-pub still-searching : (image : List ℕ) (budget : ℕ) (sets work : List ℕ) (r : Run) (low : ℕ) → State image budget sets work r TASK low → r .state ≡ TASK → Searching image budget sets work r
-still-searching image budget sets work r low (goes-on x i k) e = x
-still-searching image budget sets work r low (ended b i (all-visited y c a) k) e = absurd (omega (arith, y, e))
-still-searching image budget sets work r low (ended b i (out-of-budget y a) k) e = absurd (omega (arith, y, e))
-still-searching image budget sets work r low (ended b i (out-of-room y a) k) e = absurd (omega (arith, y, e))
+pub still-searching : (image : List ℕ) (budget : ℕ) (sets work : List ℕ) (run : Run) (low : ℕ) → State image budget sets work run TASK low → run .state ≡ TASK → Searching image budget sets work run
+still-searching image budget sets work run low (goes-on x i k) e = x
+still-searching image budget sets work run low (ended b i (all-visited y c a) k) e = absurd (omega (arith, y, e))
+still-searching image budget sets work run low (ended b i (out-of-budget y a) k) e = absurd (omega (arith, y, e))
+still-searching image budget sets work run low (ended b i (out-of-room y a) k) e = absurd (omega (arith, y, e))
 
-pub stopped-ending : (image : List ℕ) (budget : ℕ) (sets work : List ℕ) (r : Run) (low : ℕ) → State image budget sets work r TASK low → (r .state ≡ TASK → ⊥) → Stopped image budget sets r
-stopped-ending image budget sets work r low (goes-on x i k) n = absurd (n (omega arith))
-stopped-ending image budget sets work r low (ended b i x k) n = record { b = b; book = i; ending = x }
+pub stopped-ending : (image : List ℕ) (budget : ℕ) (sets work : List ℕ) (run : Run) (low : ℕ) → State image budget sets work run TASK low → (run .state ≡ TASK → ⊥) → Stopped image budget sets run
+stopped-ending image budget sets work run low (goes-on x i k) n = absurd (n (omega arith))
+stopped-ending image budget sets work run low (ended b i x k) n = record { b = b; book = i; ending = x }
 
-pub state-lower : (image : List ℕ) (budget : ℕ) (sets work : List ℕ) (r : Run) (low : ℕ) → State image budget sets work r TASK low → State image budget sets work r TASK 0
-state-lower image budget sets work r low (goes-on x i k) = goes-on x i (omega arith)
-state-lower image budget sets work r low (ended b i x k) = ended b i x (omega arith)
+pub state-lower : (image : List ℕ) (budget : ℕ) (sets work : List ℕ) (run : Run) (low : ℕ) → State image budget sets work run TASK low → State image budget sets work run TASK 0
+state-lower image budget sets work run low (goes-on x i k) = goes-on x i (omega arith)
+state-lower image budget sets work run low (ended b i x k) = ended b i x (omega arith)
 
-pub started : (image : List ℕ) (budget : ℕ) (sets work : List ℕ) (r q : Run) → Searching image budget sets work r → Moved image work r work q TASK → State image budget sets work q TASK 0
-started image budget sets work r q h m = goes-on (moved-on image budget sets work r work q TASK m h) (m .state) (omega arith)
+pub started : (image : List ℕ) (budget : ℕ) (sets work : List ℕ) (run run′ : Run) → Searching image budget sets work run → Moved image work run work run′ TASK → State image budget sets work run′ TASK 0
+started image budget sets work run run′ h m = goes-on (moved-on image budget sets work run work run′ TASK m h) (m .state) (omega arith)
 
-ahead-falls : (image : List ℕ) (budget : ℕ) (after v : List ℕ) (r q : Run) → r .nodes ≤ budget → r .state ≡ TASK → State image budget after v q TASK (suc (r .nodes)) → ahead budget q < ahead budget r
-ahead-falls image budget after v r q h z (goes-on x i k) = omega (arith, x .nodes)
-ahead-falls image budget after v r q h z (ended b i (all-visited y c a) k) = omega (arith, y)
-ahead-falls image budget after v r q h z (ended b i (out-of-budget y a) k) = omega (arith, y)
-ahead-falls image budget after v r q h z (ended b i (out-of-room y a) k) = omega (arith, y)
+ahead-falls : (image : List ℕ) (budget : ℕ) (after work′ : List ℕ) (run run′ : Run) → run .nodes ≤ budget → run .state ≡ TASK → State image budget after work′ run′ TASK (suc (run .nodes)) → ahead budget run′ < ahead budget run
+ahead-falls image budget after work′ run run′ h z (goes-on x i k) = omega (arith, x .nodes)
+ahead-falls image budget after work′ run run′ h z (ended b i (all-visited y c a) k) = omega (arith, y)
+ahead-falls image budget after work′ run run′ h z (ended b i (out-of-budget y a) k) = omega (arith, y)
+ahead-falls image budget after work′ run run′ h z (ended b i (out-of-room y a) k) = omega (arith, y)
 
-pub stepped-falls : {image : List ℕ} {budget : ℕ} {sets work after v : List ℕ} {r q : Run} → Searching image budget sets work r → r .state ≡ TASK → Stepped image budget sets work r after v q TASK → ahead budget q < ahead budget r
-stepped-falls {image} {budget} {after = after} {v} {r} {q} h z p = ahead-falls image budget after v r q (h .nodes) z (p .next)
+pub stepped-falls : {image : List ℕ} {budget : ℕ} {sets work after work′ : List ℕ} {run run′ : Run} → Searching image budget sets work run → run .state ≡ TASK → Stepped image budget sets work run after work′ run′ TASK → ahead budget run′ < ahead budget run
+stepped-falls {image} {budget} {after = after} {work′} {run} {run′} h z p = ahead-falls image budget after work′ run run′ (h .nodes) z (p .next)
