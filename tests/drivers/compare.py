@@ -10,7 +10,7 @@ import sys
 
 from tests.implementation.answers import Cases
 from tests.drivers.shared import Comparison, batches, options
-from tests.generators.images import case
+from tests.generators.cases import case
 from tests.implementation.reader import Book, read
 from tests.implementation.search import admitted, explore
 
@@ -24,7 +24,7 @@ class Figures:
     def note(self, packed):
         cases = Cases(packed)
         operation = cases.number(1)
-        if operation == 5:
+        if operation not in (1, 2, 3, 4):
             return
         image = cases.image()
         if isinstance(read(image), Book):

@@ -6,12 +6,16 @@ Written from the specification alone; shares no code with the engine.
     python3 -m tests.drivers.selfcheck
 """
 
+import itertools
 import random
+import re
 
 from tests.stored import books
-from tests.generators import images
-from tests.stored import stored
-from tests.implementation.answers import BadCase, line, line_join, line_judge, line_list, line_read, line_verdict, lines, pack_read
+from tests.generators import images, texts
+from tests.implementation import text
+from tests.stored import stored, stored_names, stored_text
+from tests.implementation.answers import (BadCase, line, line_join, line_judge, line_list, line_names, line_read, line_text, line_verdict, lines,
+                                          pack_names, pack_read, pack_text)
 from tests.generators.images import choice_book, image, loop_book, small_book, sound_book
 from tests.implementation.joiner import join
 from tests.implementation.judge import explains, judge
@@ -182,13 +186,224 @@ def check_bad_cases():
     """A malformed case ends the run."""
     sound = pack_read(books.P1)
     check(list(lines(sound + sound[:-1])) == ["accepted", "bad case"], "a case cut short")
-    check(list(lines(b"\6" + sound)) == ["bad case"], "an unknown operation")
+    check(list(lines(b"\0" + sound)) == ["bad case"], "no operation 0")
+    check(list(lines(b"\xff" + sound)) == ["bad case"], "no operation 255")
     check(list(lines(pack_read(bytes(16385)) + sound)) == ["bad case"], "an image too long for a case")
+    for pack in (pack_text, pack_names):
+        short = pack(b"?-a.", 0)
+        check(list(lines(short + short[:-1])) == ["refused 52 room untouched", "bad case"], "a text case cut short")
+        check(list(lines(pack(bytes(40000), 10000) + short)) == ["refused 50 room untouched", "refused 52 room untouched"], "a longest case")
+        check(list(lines(pack(bytes(40001), 0) + short)) == ["bad case"], "a text too long for a case")
+        check(list(lines(pack(b"?-a.", 10001) + short)) == ["bad case"], "a room too long for a case")
     try:
         line(sound + b"\0")
         check(False, "a byte after a case")
     except BadCase:
         check(True, "a byte after a case")
+
+
+# Texts.
+
+def check_text_examples():
+    """P1 as text gives the printed image, and every line is as replay writes it."""
+    spike = stored_text.SPIKE_LINES.encode()
+    names = b"fish\nrock\nbubbles\nspike\nwake\n"
+    check(text.read(spike, 45) == books.P1, "P1 as text")
+    check(text.names(spike, 29) == names, "P1's names")
+    check(line_text(spike, 45) == f"written 45 bytes {books.P1.hex()} rest untouched", "line of P1 as text")
+    check(line_text(spike, 44) == "refused 52 room untouched", "line of 52")
+    check(line_names(spike, 29) == f"written 29 bytes {names.hex()} rest untouched", "line of P1's names")
+    check(line_names(spike, 28) == "refused 52 room untouched", "line of 52 for names")
+    check(line_text(b"", 0) == "refused 50 room untouched", "line of 50")
+    article = b"wet:-abd(rain). wet:-abd(sprinkler). abd(rain)--->abd(cloudy). abd(cloudy)--->false. ?-wet."
+    check(text.read(article, 100) == books.P5, "P5 as text")
+    check(text.read(b"p:-naf(q). q:-naf(r). r:-abd(a). r:-abd(b). ?-p.", 100) == books.P6, "P6 as text")
+    check(text.words(b" abd( x):-naf (y)--->?-z1_.\0") ==
+          [b"abd(", b"x", b")", b":-", b"naf", b"(", b"y", b")", b"--->", b"?-", b"z1_", b".", b"\0"], "words")
+
+
+BLANKS = rb"[ \t\n\r]*"
+NAME = rb"(?!(?:abd|naf|true|false)(?![A-Za-z0-9_]))[a-z][A-Za-z0-9_]{0,30}(?![A-Za-z0-9_])"
+
+
+def spaced(*parts):
+    """An expression for these parts with any blanks between them."""
+    return BLANKS.join(parts)
+
+
+def listed_by(sign, part):
+    """An expression for one such part, or several with a sign between each two."""
+    return part + rb"(?:" + BLANKS + spaced(sign, part) + rb")*"
+
+
+def grammar():
+    """The grammar once more, as one regular expression over the bytes: nothing in it is nested without end."""
+    atom = rb"(?:" + NAME + rb"|" + spaced(rb"abd\(", NAME, rb"\)") + rb")"
+    literal = rb"(?:" + atom + rb"|" + spaced(rb"naf\(", atom, rb"\)") + rb")"
+    literals = listed_by(rb",", literal)
+    clause = spaced(atom + rb"(?:" + BLANKS + spaced(rb":-", literals) + rb")?", rb"\.")
+    constraint = spaced(rb"(?:true|" + literals + rb")", rb"--->", rb"(?:false|" + listed_by(rb";", literals) + rb")", rb"\.")
+    goal = spaced(rb"\?-", rb"(?:true|" + literals + rb")", rb"\.")
+    return re.compile(spaced(rb"", rb"(?:(?:" + clause + rb"|" + constraint + rb")" + BLANKS + rb")*" + goal, rb""))
+
+
+GRAMMAR = grammar()
+
+
+def well_formed(typed):
+    return len(typed) <= 32768 and GRAMMAR.fullmatch(typed) is not None
+
+
+def agrees(typed):
+    """Whether the implementation and the expression say alike if this text is of the grammar."""
+    try:
+        text.parsed(typed)
+    except text.Malformed:
+        return not well_formed(typed)
+    return well_formed(typed)
+
+
+def check_grammar():
+    """50 or not, by the implementation and by the expression."""
+    for name, typed, _, answer in itertools.chain(stored_text.table(), stored_names.table()):
+        check(well_formed(typed.encode("latin-1")) == (answer != 50), name)
+    words = (b"a", b"abd(", b"naf(", b")", b",", b";", b":-", b"--->", b"?-", b"true", b"false", b".")
+    for count in range(5):
+        for found in itertools.product(words, repeat=count):
+            typed = b" ".join(found) + b" . ?- a ."
+            check(agrees(typed), typed)
+    for found in itertools.product((b"a", b"abd", b"naf", b"(", b")", b"-", b"--->", b">", b":", b"?", b" ", b"."), repeat=4):
+        typed = b"".join(found) + b"?-a."
+        check(agrees(typed), typed)
+
+
+def check_every_byte():
+    """Every byte in every place of a text, put in and put in place of what stood there; every byte taken out."""
+    for typed in (b"a:-abd(b),naf(abd(c)).?-a.", b" true --->a ;naf( b), c.d--->false .\n?- true. "):
+        for place in range(len(typed) + 1):
+            check(agrees(typed[:place] + typed[place + 1:]), (typed, place))
+            check(agrees(typed[:place]), (typed, place))
+            for byte in range(256):
+                put = bytes([byte])
+                check(agrees(typed[:place] + put + typed[place:]), (typed, place, byte))
+                check(agrees(typed[:place] + put + typed[place + 1:]), (typed, place, byte))
+
+
+def check_text_round_trips(count):
+    """What a text says is what it was made from, and so is what the reader of images finds in the written image."""
+    rng = random.Random(16)
+    for number in range(count):
+        document = (texts.small_document, texts.sound_document, texts.small_document, texts.some_document)[number % 4](rng)
+        typed = texts.typed(rng, texts.words_of(document))
+        if len(typed) > 32768:
+            check(text.read(typed, 10000) == 50, typed)
+            continue
+        check(well_formed(typed) and text.parsed(typed) == document, typed)
+        output, names = text.written(typed)
+        check(expected_refusal(document) == (0 if isinstance(output, bytes) else output), typed)
+        if isinstance(output, bytes):
+            book = read(output)
+            check(isinstance(book, Book) and encode(book) == output, typed)
+            check(as_document(book, names.decode().split("\n")) == by_kind(document), typed)
+            check(in_text_order(typed, book.abducibles, names.split(b"\n")[:-1]), typed)
+        if number % 10 < 2:
+            check_rooms(typed, output, names)
+
+
+def check_rooms(typed, image, names):
+    """52 exactly if the room is shorter than the output; any other refusal in whatever room."""
+    for call, output in ((text.read, image), (text.names, names)):
+        if isinstance(output, bytes):
+            given = [call(typed, room) for room in (0, len(output) - 1, len(output), len(output) + 1)]
+            check(given == [52, 52, output, output], typed)
+        else:
+            check([call(typed, room) for room in (0, 10000)] == [image, image], typed)
+
+
+def as_document(book, names):
+    """Goal, clauses and constraints of a book, with names and marks in place of numbers."""
+    def literals(found):
+        return [(names[literal >> 1], literal >> 1 < book.abducibles, literal % 2 == 1) for literal in found]
+    clauses = [(names[clause.head], literals(clause.body)) for clause in book.clauses]
+    constraints = [(literals(each.conditions), [literals(a) for a in each.alternatives]) for each in book.constraints]
+    return literals(book.goal), clauses, constraints
+
+
+def by_kind(document):
+    """The same of a document: each kind in the text's order."""
+    def literals(found):
+        return [(literal.atom.name.decode(), literal.atom.marked, literal.negated) for literal in found]
+    clauses = [(each.head.name.decode(), literals(each.body)) for each in document.statements if isinstance(each, text.Clause)]
+    constraints = [(literals(each.conditions), [literals(a) for a in each.alternatives])
+                   for each in document.statements if isinstance(each, text.Constraint)]
+    return literals(document.goal), clauses, constraints
+
+
+def in_text_order(typed, abducibles, names):
+    """Whether the abducibles, and then the others, are named in the order in which their names first stand in the text, none left out."""
+    first = {}
+    for word in re.finditer(rb"[A-Za-z0-9_]+", typed):
+        first.setdefault(word[0], word.start())
+    places = [first[name] for name in names]
+    known = {word for word in first if word not in (b"abd", b"naf", b"true", b"false")}
+    return places[:abducibles] == sorted(places[:abducibles]) and places[abducibles:] == sorted(places[abducibles:]) and set(names) == known
+
+
+def expected_refusal(document):
+    """51, then 5 or 7 in the order of the walk, then 9, or 0; from the document's own counts."""
+    def size(constraint):
+        return len(constraint.conditions) + sum(map(len, constraint.alternatives))
+    marked = {atom.name for atom in document.atoms() if atom.marked}
+    others = {atom.name for atom in document.atoms() if not atom.marked}
+    clauses = [each for each in document.statements if isinstance(each, text.Clause)]
+    constraints = [each for each in document.statements if isinstance(each, text.Constraint)]
+    if marked & others:
+        return 51
+    if not 1 <= len(marked) + len(others) <= 256 or len(marked) > 64 or len(document.goal) > 16 or len(clauses) > 512:
+        return 5
+    for place, clause in enumerate(clauses):
+        if sum(len(each.body) for each in clauses[:place + 1]) > 1024:
+            return 5
+        if clause.head.marked:
+            return 7
+    if len(constraints) > 128 or sum(map(size, constraints)) > 1024:
+        return 5
+    return 9 if has_loop(clauses) else 0
+
+
+def has_loop(clauses):
+    """Whether some head leads back to itself: heads whose clauses lead to no head that is left are taken away, until none goes."""
+    left = clauses
+    while left:
+        heads = {each.head for each in left}
+        held = {each.head for each in left if any(literal.atom in heads for literal in each.body)}
+        if held == heads:
+            return True
+        left = [each for each in left if each.head in held]
+    return False
+
+
+def check_text_generators(count):
+    """Generated texts of every kind: of the grammar or not, by both; and every refusal is met."""
+    rng = random.Random(17)
+    met = set()
+    for _ in range(count):
+        typed = texts.some_text(rng)
+        output = text.read(typed, 10000)
+        check(well_formed(typed) == (output != 50), typed)
+        met.add(output if isinstance(output, int) else 0)
+    check(met == {0, 5, 7, 9, 50, 51}, met)
+
+
+def check_longest_texts():
+    """Texts of 32 KiB whose books are as large as can be: every field has room for its number."""
+    for typed in (b"a--->" + b";".join([b"a"] * 16379) + b".?-a.", b"a:-" + b",".join([b"a"] * 16380) + b".?-a.", b"a." * 16382 + b"?-a.",
+                  b",".join([b"a"] * 16375) + b"--->false.?-a.", b"?-" + b",".join([b"a"] * 16382) + b"."):
+        check(32750 < len(typed) <= 32768 and text.read(typed, 10000) == 5, typed[:20])
+        document = text.parsed(typed)
+        check(len(encode(text.book_of(document, text.numbered(document)))) > 32000, typed[:20])
+    longest = text.parsed(b"a--->" + b";".join([b"a"] * 16379) + b".?-a.")
+    check(encode(text.book_of(longest, text.numbered(longest)))[17:19] == (65520).to_bytes(2, "big"), "the longest record")
 
 
 def main():
@@ -201,6 +416,12 @@ def main():
     check_joiner(400)
     check_stored()
     check_bad_cases()
+    check_text_examples()
+    check_grammar()
+    check_every_byte()
+    check_text_round_trips(2500)
+    check_text_generators(1500)
+    check_longest_texts()
     print(f"{passed} checks passed")
 
 

@@ -15,7 +15,7 @@ import tempfile
 from pathlib import Path
 
 from tests.implementation.answers import line
-from tests.generators.images import case
+from tests.generators.cases import case
 
 BATCH = 300  # the toolchain gives each run a few seconds
 BUILDS = 3

@@ -560,8 +560,3 @@ def join_case(rng):
 
 
 CASES = {1: read_case, 2: judge_case, 3: list_case, 4: verdict_case, 5: join_case}
-
-
-def case(rng, operation):
-    """A packed case of this operation."""
-    return CASES[operation](rng)

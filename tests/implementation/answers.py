@@ -9,6 +9,7 @@ answers a whole run of cases.
 
 import sys
 
+from tests.implementation import text
 from tests.implementation.joiner import join
 from tests.implementation.judge import judge
 from tests.implementation.reader import Book, read
@@ -17,6 +18,8 @@ from tests.implementation.search import listing, verdict
 LONGEST_CASE_IMAGE = 16384
 MOST_ROOM = 1100
 MOST_WORK = 20000
+LONGEST_CASE_TEXT = 40000
+MOST_BYTES = 10000  # a room in bytes
 
 
 class BadCase(Exception):
@@ -58,6 +61,14 @@ def pack_join(left, right, room):
     return b"\x05" + pack_sets(left) + pack_sets(right) + room.to_bytes(2, "big")
 
 
+def pack_text(typed, room):
+    return b"\x06" + pack_image(typed) + room.to_bytes(4, "big")
+
+
+def pack_names(typed, room):
+    return b"\x0c" + pack_image(typed) + room.to_bytes(4, "big")
+
+
 # The line of each operation.
 
 def line_read(image):
@@ -80,6 +91,21 @@ def line_verdict(image, hypothesis, budget, room, work_length):
 def line_join(left, right, room):
     answer, entries = join(left, right, room)
     return " ".join(str(part) for part in (*answer, "sets", *entries))
+
+
+def line_text(typed, room):
+    return writing_line(text.read(typed, room))
+
+
+def line_names(typed, room):
+    return writing_line(text.names(typed, room))
+
+
+def writing_line(output):
+    """The line of a call that writes bytes into a room: what stands at its front, the rest as it was; or a refusal."""
+    if isinstance(output, bytes):
+        return f"written {len(output)} bytes {output.hex()} rest untouched"
+    return f"refused {output} room untouched"
 
 
 def result_line(result):
@@ -118,6 +144,9 @@ class Cases:
     def sets(self):
         return [self.number(8) for _ in range(self.number(2, MOST_ROOM))]
 
+    def text(self):
+        return self.take(self.number(4, LONGEST_CASE_TEXT)), self.number(4, MOST_BYTES)
+
     def means(self):
         return self.number(4), self.number(2, MOST_ROOM), self.number(4, MOST_WORK)
 
@@ -134,6 +163,10 @@ class Cases:
             return line_verdict(self.image(), self.number(4), *self.means())
         if operation == 5:
             return line_join(self.sets(), self.sets(), self.number(2, MOST_ROOM))
+        if operation == 6:
+            return line_text(*self.text())
+        if operation == 12:
+            return line_names(*self.text())
         raise BadCase
 
 

@@ -77,7 +77,7 @@ length-words b w =
       length-constraints (b .atoms) (b .constraints) (w .constraintsFine),
     )
 
-abbrev Field : ℕ → Type 0
+abbrev pub Field : ℕ → Type 0
 Field x = x < fieldValues
 
 lits-small : (atoms : ℕ) (ls : List Lit) → atoms ≤ limits .atoms → Every (Named atoms) ls → Every Field (ofLits ls)
@@ -135,7 +135,7 @@ words-small b w =
 
 -- ---- decode (encode b)
 
-length-two : (ws : List ℕ) → length (flat two ws) ≡ 2 * length ws
+pub length-two : (ws : List ℕ) → length (flat two ws) ≡ 2 * length ws
 length-two [] = refl
 length-two (x ∷ ws) = let h : length (flat two ws) ≡ 2 * length ws = length-two ws in omega arith
 
@@ -147,7 +147,7 @@ field-of pre x post h =
     let low : getD (pre ++ (two x ++ post)) (length pre + 1) 0 ≡ x % byteValues = getD-append-add pre (two x ++ post) 1 0 in
     omega arith
 
-stands-two : (pre ws : List ℕ) → Every Field ws → Stands (pre ++ flat two ws) (length pre) ws
+pub stands-two : (pre ws : List ℕ) → Every Field ws → Stands (pre ++ flat two ws) (length pre) ws
 stands-two pre [] h = none
 stands-two pre (x ∷ ws) h =
     let long : length (pre ++ two x) ≡ length pre + 2 = length-append pre (two x) in

@@ -347,7 +347,7 @@ front-fine s e =
       size = eqb-true (lengthField s) (length s - atomsAt) (unless-held (eqb (lengthField s) (length s - atomsAt)) 3 fine e₂);
     }
 
-fine-front : (s : List ℕ) → Front s → wrongFront s ≡ fine
+pub fine-front : (s : List ℕ) → Front s → wrongFront s ≡ fine
 unfolding wrongFront
 fine-front s h = simp (le-leb _ _ (h .long), eq-eqb _ _ (h .version), eq-eqb _ _ (h .size))
 

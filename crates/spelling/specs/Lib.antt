@@ -1,0 +1,20 @@
+-- Rules as surveyors type them (paper 02, A1): what a text says and what is answered, and the laws on it.
+pub mod paper
+pub mod WordLaws
+pub mod Cut
+pub mod Reader
+pub mod Sound
+pub mod Complete
+pub mod Cutting
+pub mod Apart
+pub mod Found
+pub mod Mentioned
+pub mod Codes
+pub mod Table
+pub mod Numbering
+pub mod Fits
+pub mod Fair
+pub mod Only
+pub mod Answers
+pub mod Meant
+pub mod Examples

@@ -1,0 +1,13 @@
+"""The table of what makes a case of each operation.
+
+Written from the specification alone; shares no code with the engine.
+"""
+
+from tests.generators import images, texts
+
+CASES = {**images.CASES, **texts.CASES}
+
+
+def case(rng, operation):
+    """A packed case of this operation."""
+    return CASES[operation](rng)
