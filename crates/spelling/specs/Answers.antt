@@ -14,7 +14,9 @@ use Rattle.base.specs.Bools.{choose-true, choose-false}
 use Rattle.image.specs.paper.Decode.{Decoded, accepted, refused, decode}
 use Rattle.spelling.specs.paper.Document.{Document}
 use Rattle.spelling.specs.paper.Said.{clashing, bookOf}
-use Rattle.spelling.specs.paper.Answer.{longestText, Says, imageOf, Clear, Ending, bytes, number, Ends, malformed, clashes, turned, short, whole, Writing, answerOf, roomOf, Writes}
+use Rattle.spelling.specs.paper.Answer.{longestText, Says, imageOf, Clear, Ends, malformed, clashes, turned, short, whole, Writes}
+use Rattle.image.specs.declared.Writing.{Writing}
+use Rattle.image.specs.paper.Writing.{Ending, bytes, number, answerOf, roomOf}
 use Rattle.spelling.specs.Reader.{Parsed, reads, unreadable, parse}
 use Rattle.spelling.specs.Found.{parse-spelt}
 use Rattle.spelling.specs.Only.{Outcome, back, limit, head, loop, text-only}

@@ -15,7 +15,10 @@ use Rattle.spelling.specs.Cut.{span, begins, sign, opened, cutAt, wordsB
 use Rattle.spelling.specs.Reader.{next, name, atom, literal as lit, separated, fromHead, fromSide, statement, goalLine, document, parse}
 use Rattle.spelling.specs.Answers.{ending}
 use Rattle.spelling.specs.paper.Said.{firsts}
-use Rattle.spelling.specs.paper.Answer.{imageOf, nameLines, bytes, number, Writing, Written, Refused, answerOf}
+use Rattle.image.specs.declared.Writing.{Writing}
+use Rattle.image.specs.declared.Writing.the-variants.{Written, Refused}
+use Rattle.image.specs.paper.Writing.{bytes, number, answerOf}
+use Rattle.spelling.specs.paper.Answer.{imageOf, nameLines}
 
 abbrev spike : String
 spike = "spike :- abd(fish).\nspike :- abd(rock).\nspike :- abd(bubbles).\nabd(bubbles) ---> wake.\n?- spike.\n"

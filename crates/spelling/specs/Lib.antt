@@ -12,6 +12,8 @@ pub mod Mentioned
 pub mod Codes
 pub mod Table
 pub mod Numbering
+pub mod TableLaws
+pub mod Ranks
 pub mod Fits
 pub mod Fair
 pub mod Only

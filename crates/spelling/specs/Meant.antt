@@ -23,7 +23,9 @@ use Rattle.image.specs.Encode.{longestImage, longest-image}
 use Rattle.image.specs.Accepted.{within, loopless}
 use Rattle.spelling.specs.paper.Document.{Atom, Literal, Statement, clause, constraint, Document}
 use Rattle.spelling.specs.paper.Said.{atomsIn, mentionsIn, mentions, abducibles, numbered, numberOf, litIn, clausesIn, clashing, bookOf}
-use Rattle.spelling.specs.paper.Answer.{Says, imageOf, Clear, Ending, bytes, number, Ends, malformed, clashes, turned, short, whole, Written, Refused, answerOf, roomOf, Writes}
+use Rattle.spelling.specs.paper.Answer.{Says, imageOf, Clear, Ends, malformed, clashes, turned, short, whole, Writes}
+use Rattle.image.specs.declared.Writing.the-variants.{Written, Refused}
+use Rattle.image.specs.paper.Writing.{Ending, bytes, number, answerOf, roomOf}
 use Rattle.spelling.specs.Numbering.{Clash, clashing-clash, marked-below}
 use Rattle.spelling.specs.Fair.{Told, Few, MarkedHead}
 use Rattle.spelling.specs.Only.{Outcome, back, limit, head, loop, book-told, text-only}

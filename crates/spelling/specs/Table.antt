@@ -1,10 +1,11 @@
 -- The table of names that the code keeps: each name once, as it is first mentioned; and whether a later mention differs in its mark.
 -- Assumes nothing.
-use Prim.Native.Nat.{ℕ, _/_, _%_, _<_, _≤_}
+use Prim.Native.Nat.{ℕ, _+_, _-_, _/_, _%_, _<_}
 use mathlib.Core.Path.{_≡_}
 use mathlib.Core.Bool.{Bool, true, false, _&&_, _||_, not}
 use mathlib.Core.List.{List, [], _∷_, _++_, map}
-use lib.ListN.{length, getD, drop}
+use lib.ListN.{length, getD, take, drop}
+use lib.Dec.{eqb}
 use Rattle.base.specs.paper.Bools.{choose}
 use Rattle.base.specs.paper.Lists.{any, filter}
 use Rattle.spelling.specs.paper.Words.{Word, same, inName}
@@ -65,3 +66,15 @@ noAtom = record { name = []; marked = false }
 -- the entries of a table, by their places
 abbrev pub Entries : List ℕ → List ℕ → List Atom → Type 0
 Entries text entries table = (i : ℕ) → i < length table → Entry text (getD entries i 0) (getD table i noAtom)
+
+-- ---- the names' numbers, from the entries: how many of its kind stand before an entry, behind all abducibles where it is not marked
+
+abbrev pub markedEntry : ℕ → Bool
+markedEntry e = eqb (e % 2) 1
+
+abbrev pub marksIn : List ℕ → ℕ
+marksIn entries = length (filter markedEntry entries)
+
+abbrev pub numberIn : ℕ → List ℕ → ℕ → ℕ
+numberIn marked entries i =
+    choose (markedEntry (getD entries i 0)) (marksIn (take i entries)) (marked + (i - marksIn (take i entries)))

@@ -5,10 +5,12 @@ use Prim.Native.Nat.{ℕ, _≤_, _<_}
 use mathlib.Core.Path.{_≡_}
 use mathlib.Core.Bool.{true, false}
 use mathlib.Core.List.{List, _++_}
-use lib.ListN.{length, drop}
+use lib.ListN.{length}
 use Rattle.base.specs.paper.Lists.{flat}
 use Rattle.image.specs.paper.Decode.{accepted, refused, decode}
 use Rattle.image.specs.paper.Spell.{encode}
+use Rattle.image.specs.declared.Writing.{Writing}
+use Rattle.image.specs.paper.Writing.{Ending, bytes, number, answerOf, roomOf}
 use Rattle.spelling.specs.paper.Words.{ascii}
 use Rattle.spelling.specs.paper.Document.{Document}
 use Rattle.spelling.specs.paper.Spelt.{Spelt}
@@ -35,11 +37,6 @@ pub record Clear (text : List ℕ) (d : Document) : Type 0 where
   pub says : Says text d
   pub clear : clashing d ≡ false
 
--- how a call ends: it writes these bytes, or refuses with a number
-pub data Ending : Type 0 where
-  bytes : List ℕ → Ending
-  number : ℕ → Ending
-
 -- 50, the text says nothing; 51, a name clashes; "5 or 7, whichever the walk of paper 01 over the image would meet first; 9"; 52, the room
 -- is shorter than what is to be written. Else that is written, and the image is read as the book that the text says.
 pub data Ends (what : Document → List ℕ) (text : List ℕ) (room : ℕ) : Ending → Type 0 where
@@ -48,21 +45,6 @@ pub data Ends (what : Document → List ℕ) (text : List ℕ) (room : ℕ) : En
   turned : (d : Document) (n : ℕ) → Clear text d → decode (imageOf d) ≡ refused n → Ends what text room (number n)
   short : (d : Document) → Clear text d → decode (imageOf d) ≡ accepted (bookOf d) → room < length (what d) → Ends what text room (number 52)
   whole : (d : Document) → Clear text d → decode (imageOf d) ≡ accepted (bookOf d) → length (what d) ≤ room → Ends what text room (bytes (what d))
-
--- what a call answers: the number of bytes written, or the refusal's number
-pub data Writing : Type 0 where
-  Written : ℕ → Writing
-  Refused : ℕ → Writing
-
-abbrev pub answerOf : Ending → Writing
-answerOf (bytes s) = Written (length s)
-answerOf (number n) = Refused n
-
--- "Whatever a call writes, it writes from the front of its room on; the room's other bytes are as they were." And "a refusal leaves every
--- room as it was" (both paper 02, 0.2).
-abbrev pub roomOf : Ending → List ℕ → List ℕ
-roomOf (bytes s) room = s ++ drop (length s) room
-roomOf (number n) room = room
 
 -- A call's promise, by what it writes: the answer, and every byte of the room, on all inputs. That of the reader of texts is `Writes
 -- imageOf`, that of the call for the names `Writes nameLines`.
