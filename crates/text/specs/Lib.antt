@@ -1,0 +1,4 @@
+-- What the calls on texts do in parts.
+pub mod Given
+pub mod Delivered
+pub mod Lines
