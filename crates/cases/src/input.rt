@@ -135,7 +135,7 @@ fn no_length() -> Length
     }
 }
 
-// An image, put at the front of the buffer, and its length.
+// An image, or a text, put at the front of the buffer, and its length.
 pub fn take_image(image: &mut [u8]) -> Length
     ensures { λ r. ⌜ r .value ≤ length (now (image .entry)) ⌝ }
 {
@@ -181,6 +181,14 @@ pub fn take_room(most: usize) -> Length
     at_most(n, most)
 }
 
+// A length of at most `most`, of four bytes.
+pub fn take_length(most: usize) -> Length
+    ensures { λ r. ⌜ r .value ≤ most ⌝ }
+{
+    let n = take_u32();
+    at_most(n, most)
+}
+
 // A budget or a hypothesis, of four bytes.
 pub fn take_number() -> Small {
     let n = take_u32();
@@ -196,8 +204,7 @@ pub fn take_means() -> Allowance
 {
     let budget = take_number();
     let room = take_room(ENTRIES);
-    let number = take_u32();
-    let space = at_most(number, WORK);
+    let space = take_length(WORK);
     Allowance {
         ok: budget.ok && (room.ok && space.ok),
         budget: budget.value,

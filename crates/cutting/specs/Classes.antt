@@ -12,6 +12,15 @@ no-more true = refl
 no-more false = refl
 
 module _ (b : ℕ) where
+  -- neither a space nor a tab nor LF
+  pub blank-last : (b ≡ 32 → ⊥) → (b ≡ 9 → ⊥) → (b ≡ 10 → ⊥) → blank b ≡ eqb b 13
+  unfolding blank
+  blank-last h i j =
+      ap (λ (q : Bool). q || (eqb b 9 || (eqb b 10 || (eqb b 13 || false)))) (ne-eqb b 32 h)
+      ∙ ap (λ (q : Bool). q || (eqb b 10 || (eqb b 13 || false))) (ne-eqb b 9 i)
+      ∙ ap (λ (q : Bool). q || (eqb b 13 || false)) (ne-eqb b 10 j)
+      ∙ no-more (eqb b 13)
+
   pub name-small : within 97 122 b ≡ true → inName b ≡ true
   unfolding inName small
   name-small e = ap (λ (q : Bool). q || within 65 90 b || within 48 57 b || eqb b 95) e

@@ -19,7 +19,7 @@ use Rattle.spelling.specs.paper.Spelt.{Spaced}
 
 -- ---- a span
 
-span-whole : (p : ℕ → Bool) (t : List ℕ) → span p t .front ++ span p t .rest ≡ t
+pub span-whole : (p : ℕ → Bool) (t : List ℕ) → span p t .front ++ span p t .rest ≡ t
 unfolding span
 span-whole p [] = refl
 span-whole p (b ∷ t) = go (p b) (span-whole p t)
@@ -29,7 +29,7 @@ span-whole p (b ∷ t) = go (p b) (span-whole p t)
     go true e = ap (λ (z : List ℕ). b ∷ z) e
     go false e = refl
 
-span-all : (p : ℕ → Bool) (t : List ℕ) → all p (span p t .front) ≡ true
+pub span-all : (p : ℕ → Bool) (t : List ℕ) → all p (span p t .front) ≡ true
 unfolding span
 span-all p [] = refl
 span-all p (b ∷ t) = go (p b) refl (span-all p t)
@@ -54,7 +54,7 @@ span-over p (b ∷ s) t h e =
 
 -- ---- a cut
 
-begins-whole : (w t : List ℕ) → begins w t ≡ true → w ++ beyond w t ≡ t
+pub begins-whole : (w t : List ℕ) → begins w t ≡ true → w ++ beyond w t ≡ t
 unfolding begins
 begins-whole [] t e = refl
 begins-whole (a ∷ w) [] e = clash refl (sym e)

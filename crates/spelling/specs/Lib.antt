@@ -10,6 +10,7 @@ pub mod Apart
 pub mod Found
 pub mod Mentioned
 pub mod Codes
+pub mod CodeLaws
 pub mod Table
 pub mod Numbering
 pub mod TableLaws

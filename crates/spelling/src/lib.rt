@@ -1,6 +1,8 @@
 // Rules as surveyors type them: what a text says and what is answered stand in specs/. Here are the numbers of words that the code over it
 // shares, as specs/Codes has them.
 
+pub mod words;
+
 // The fixed words.
 pub const ABD: u16 = 0;
 

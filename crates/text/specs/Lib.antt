@@ -2,3 +2,4 @@
 pub mod Given
 pub mod Delivered
 pub mod Lines
+pub mod Made

@@ -1,0 +1,9 @@
+-- The most that a case may name: bytes of a text, and of a room.
+-- Assumes nothing.
+use Prim.Native.Nat.{ℕ}
+
+abbrev pub textBytes : ℕ
+textBytes = 40000
+
+abbrev pub roomBytes : ℕ
+roomBytes = 10000
