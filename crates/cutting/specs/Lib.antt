@@ -3,5 +3,5 @@ pub mod CutOff
 pub mod Classes
 pub mod Spans
 pub mod Begins
-pub mod Codes
+pub mod RunCodes
 pub mod Off

@@ -1,6 +1,6 @@
 -- Words that are cut off: the signs, abd and naf, and the runs.
 -- Assumes nothing.
-use Prim.Native.Nat.{ℕ, _+_, _-_, _<_, _≤_}
+use Prim.Native.Nat.{ℕ, _+_, _<_}
 use native.Mathlib.Omega.{arith}
 use mathlib.Core.Path.{_≡_, refl, sym, ap, _∙_, subst}
 use mathlib.Core.Bool.{Bool, true, false, _&&_, _||_}
@@ -15,25 +15,16 @@ use Rattle.base.specs.paper.Lists.{any}
 use Rattle.base.specs.Lists.{here, there}
 use Rattle.base.specs.Tests.{any-fails}
 use Rattle.base.specs.Stores.{next-all}
-use Rattle.spelling.specs.paper.Words.{Word, small, inName, same, isName, abd, naf, close, comma, semicolon, dot, neck, arrow, query, trueWord, falseWord, bareAbd, bareNaf}
+use Rattle.spelling.specs.paper.Words.{Word, small, inName, same, isName, abd, naf, close, comma, semicolon, dot, neck, arrow, query, bareAbd, bareNaf}
 use Rattle.spelling.specs.paper.Document.{NonEmpty}
-use Rattle.spelling.specs.Cut.{Cut, cutting, behind, span, begins, beyond, sign, bracket, opened, cutAt, cut}
-use Rattle.spelling.specs.Cutting.{span-whole, begins-whole}
+use Rattle.spelling.specs.Cut.{cutting, behind, span, begins, beyond, sign, bracket, opened, cutAt, cut}
+use Rattle.spelling.specs.Cutting.{span-whole, begins-whole, some-length}
 use Rattle.spelling.specs.Codes.{abdCode, nafCode, closeCode, commaCode, neckCode, semicolonCode, dotCode, arrowCode, queryCode, otherCode, codeOf, buckets, hashOf}
 use Rattle.spelling.specs.Table.{nameAt}
 use Rattle.spelling.specs.WordLaws.{same-true}
-use Rattle.cutting.specs.CutOff.{wordAt, CutOff, RunAt, Fixed, runCode}
-use Rattle.cutting.specs.Codes.{bare, byte-code, byte-no-name}
-
-abbrev front : Cut → Word
-front c = c .front
-
-abbrev rest : Cut → List ℕ
-rest c = c .rest
-
-some-length : (w : Word) → NonEmpty w → 0 < length w
-some-length [] h = absurd h
-some-length (b ∷ w) h = omega arith
+use Rattle.cutting.specs.CutOff.{wordAt, CutOff, RunAt, Fixed}
+use Rattle.cutting.specs.Spans.{front, rest}
+use Rattle.cutting.specs.RunCodes.{bare, byte-code, byte-no-name}
 
 -- the word w at a place
 module _ (text : List ℕ) (at : ℕ) (w t : List ℕ) (whole : w ++ t ≡ drop at text) (cuts : cut (drop at text) ≡ cutting w t) (some : NonEmpty w) where
@@ -116,6 +107,10 @@ fixed-off text at {w} f b x =
 
 -- ---- a byte of no sign
 
+-- the signs of more than one byte, in the order of `cutAt`
+abbrev signs : List Word
+signs = neck ∷ arrow ∷ query ∷ []
+
 module _ (b : ℕ) (t : List ℕ) where
   out-of-name : span inName (b ∷ t) .front ≡ [] → inName b ≡ false
   unfolding span
@@ -125,18 +120,18 @@ module _ (b : ℕ) (t : List ℕ) where
       go true i = let z = ap length i in absurd (omega arith)
       go false i = refl
 
-  no-sign : begins neck (b ∷ t) ≡ false → begins arrow (b ∷ t) ≡ false → begins query (b ∷ t) ≡ false → sign (neck ∷ arrow ∷ query ∷ []) (b ∷ t) ≡ cutting (b ∷ []) t
+  no-sign : begins neck (b ∷ t) ≡ false → begins arrow (b ∷ t) ≡ false → begins query (b ∷ t) ≡ false → sign signs (b ∷ t) ≡ cutting (b ∷ []) t
   unfolding sign
   no-sign n a q = choose-false _ _ n ∙ choose-false _ _ a ∙ choose-false _ _ q
 
 -- the text from a place that has no run
 module _ (text : List ℕ) (at : ℕ) (h : at < length text) (none : nameAt text at ≡ []) where
-  cut-sign : cut (drop at text) ≡ sign (neck ∷ arrow ∷ query ∷ []) (drop at text)
+  cut-sign : cut (drop at text) ≡ sign signs (drop at text)
   unfolding cutAt
   cut-sign =
       let t : List ℕ = drop at text in
       let all : span inName t .rest ≡ t = ap (λ (w : Word). w ++ span inName t .rest) (sym none) ∙ span-whole inName t in
-      ap (λ (w : Word). cutAt w (span inName t .rest)) none ∙ ap (sign (neck ∷ arrow ∷ query ∷ [])) all
+      ap (λ (w : Word). cutAt w (span inName t .rest)) none ∙ ap (sign signs) all
 
   module _ (a : begins comma (drop at text) ≡ false) (c : begins close (drop at text) ≡ false) (d : begins dot (drop at text) ≡ false)
       (n : begins neck (drop at text) ≡ false) (s : begins semicolon (drop at text) ≡ false) (r : begins arrow (drop at text) ≡ false)
@@ -149,7 +144,7 @@ module _ (text : List ℕ) (at : ℕ) (h : at < length text) (none : nameAt text
         let out : inName b ≡ false = out-of-name b t (ap (λ (z : List ℕ). span inName z .front) (sym e) ∙ none) in
         let no : (w : Word) → begins w (drop at text) ≡ false → begins w (b ∷ t) ≡ false = λ w i. ap (begins w) (sym e) ∙ i in
         let cuts : cut (drop at text) ≡ cutting (b ∷ []) t =
-        cut-sign ∙ ap (sign (neck ∷ arrow ∷ query ∷ [])) e ∙ no-sign b t (no neck n) (no arrow r) (no query q) in
+        cut-sign ∙ ap (sign signs) e ∙ no-sign b t (no neck n) (no arrow r) (no query q) in
         let byte : codeOf [] (b ∷ []) ≡ otherCode = byte-code b out t (no comma a) (no close c) (no dot d) (no semicolon s) in
         let o = off text at (b ∷ []) t (sym e) cuts tt 0 (λ i. clash i (byte-no-name b out)) (λ i. clash i (byte-no-name b out)) (omega arith) in
         same-off o (x .its-code ∙ sym byte) (x .its-end) (x .no-hash)

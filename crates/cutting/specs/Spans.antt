@@ -14,6 +14,12 @@ use Rattle.spelling.specs.Codes.{buckets, hashFrom, hashOf}
 use Rattle.spelling.specs.Table.{nameAt}
 use Rattle.cutting.specs.CutOff.{BlanksEnd, RunAt}
 
+abbrev pub front : Cut → Word
+front c = c .front
+
+abbrev pub rest : Cut → List ℕ
+rest c = c .rest
+
 module _ (p : ℕ → Bool) (text : List ℕ) (i : ℕ) where
   -- one byte more
   span-met : i < length text → p (getD text i 0) ≡ true → span p (drop i text) ≡ behind (getD text i 0) (span p (drop (i + 1) text))
@@ -36,9 +42,6 @@ pub record Passing (text : List ℕ) (at i : ℕ) : Type 0 where
   pub ahead : at ≤ i
   pub within : i ≤ length text
   pub rest : span blank (drop at text) .rest ≡ span blank (drop i text) .rest
-
-abbrev rest : Cut → List ℕ
-rest c = c .rest
 
 module _ (text : List ℕ) (at : ℕ) where
   pub passing-first : at ≤ length text → Passing text at at
@@ -65,9 +68,6 @@ pub record Running (text : List ℕ) (at i hash : ℕ) : Type 0 where
   pub rest : span inName (drop at text) .rest ≡ span inName (drop i text) .rest
   pub hashed : hashOf (nameAt text at) ≡ hashFrom hash (nameAt text i)
   pub bucket : hash < buckets
-
-abbrev front : Cut → Word
-front c = c .front
 
 module _ (text : List ℕ) (at : ℕ) where
   pub running-first : at ≤ length text → Running text at at 0

@@ -5,6 +5,7 @@ pub mod WalkLaws
 pub mod FaultLaws
 pub mod LoopLaws
 pub mod Spell
+pub mod Laid
 pub mod StandsLaws
 pub mod Finds
 pub mod Written

@@ -6,7 +6,7 @@ ghost use lib.ListN.{length};
 ghost use lib.Dec.{leb};
 ghost use Rattle.image.specs.paper.Walk.{fieldAt, byteValues, fieldValues};
 
-const BYTE_VALUES: u32 = 256;
+pub const BYTE_VALUES: u32 = 256;
 
 // How many values a field has.
 pub const FIELD_VALUES: usize = BYTE_VALUES as usize * BYTE_VALUES as usize;

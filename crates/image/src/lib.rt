@@ -4,6 +4,7 @@
 pub mod fields;
 pub mod front;
 pub mod limits;
+pub mod write;
 
 // What a call that writes bytes answers: how many it wrote, or the number under which it refuses.
 pub enum Writing {

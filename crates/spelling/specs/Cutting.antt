@@ -102,7 +102,7 @@ cut-whole b t = go (span inName (b ∷ t) .front) (span inName (b ∷ t) .rest) 
     go [] r e = subst (λ (z : List ℕ). Whole (sign (neck ∷ arrow ∷ query ∷ []) z) (b ∷ t)) (sym e) (sign-whole (neck ∷ arrow ∷ query ∷ []) b t three)
     go (c ∷ w) r e = subst (λ (z : List ℕ). Whole (opened (c ∷ w) r) z) e (opened-whole c w r)
 
-some-length : (w : List ℕ) → NonEmpty w → 1 ≤ length w
+pub some-length : (w : List ℕ) → NonEmpty w → 1 ≤ length w
 some-length [] h = absurd h
 some-length (b ∷ w) h = omega arith
 

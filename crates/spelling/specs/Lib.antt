@@ -20,4 +20,5 @@ pub mod Fair
 pub mod Only
 pub mod Answers
 pub mod Meant
+pub mod Lines
 pub mod Examples

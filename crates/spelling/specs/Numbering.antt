@@ -156,7 +156,7 @@ module _ (kind : Atom → Bool) (ms : List Atom) where
   names-has : (a : Atom) → a ∈ ms → kind a ≡ true → a .name ∈ namesOf kind ms
   names-has a i e = firsts-has _ (a .name) (∈-map (λ (b : Atom). b .name) (filter-has kind ms i e))
 
-  names-from : (n : Word) → n ∈ namesOf kind ms → (a : Atom) × (a ∈ ms) × (kind a ≡ true) × (n ≡ a .name)
+  pub names-from : (n : Word) → n ∈ namesOf kind ms → (a : Atom) × (a ∈ ms) × (kind a ≡ true) × (n ≡ a .name)
   names-from n i =
       let m = map-∈ (λ (b : Atom). b .name) (filter kind ms) (firsts-from _ n i) in
       let f = filter-from kind ms (m .1) in

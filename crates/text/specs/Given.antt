@@ -23,6 +23,11 @@ use Rattle.spelling.specs.TableLaws.{filter-append}
 abbrev pub Given : List ℕ → ℕ → List ℕ → ℕ → Type 0
 Given entries marked numbers n = (i : ℕ) → i < n → getD numbers i 0 ≡ numberIn marked entries i
 
+-- all of them, in an array of numbers
+pub record Numbered (entries : List ℕ) (marked : ℕ) (numbers : List ℕ) (n : ℕ) : Type 0 where
+  pub given : Given entries marked numbers n
+  pub size : length numbers ≡ longestText
+
 -- the loop: n entries have theirs, and as many of them are marked
 pub record Giving (entries : List ℕ) (marked : ℕ) (numbers : List ℕ) (before n : ℕ) : Type 0 where
   pub size : length numbers ≡ longestText

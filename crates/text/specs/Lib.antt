@@ -3,3 +3,5 @@ pub mod Given
 pub mod Delivered
 pub mod Lines
 pub mod Made
+pub mod Drafted
+pub mod Named

@@ -6,8 +6,8 @@ use native.Mathlib.Numerals.{add-one}
 use mathlib.Core.Path.{_≡_, refl, sym, ap, ap₂, _∙_, subst}
 use mathlib.Core.Bool.{Bool, true, false, not}
 use mathlib.Core.List.{List, [], _∷_, _++_, map, append-nil}
-use lib.ListN.{length, take, drop, getD, set, length-append, drop-of-length-le}
-use lib.Seq.{sets, length-sets, sets-eq, take-suc}
+use lib.ListN.{length, take, drop, getD, set, length-append, length-take, drop-of-length-le}
+use lib.Seq.{sets, length-sets, sets-eq, take-suc, take-at}
 use lib.Dec.{eqb}
 use borrow.Author.Tests.{eqb-true, eqb-false, eq-eqb, ne-eqb}
 use Rattle.base.specs.paper.Bools.{choose}
@@ -100,10 +100,15 @@ lined-both s t before middle after at m r v w =
       room = w .room ∙ ap₂ (λ (l : List ℕ) (j : ℕ). sets l j t) (v .room) (v .end) ∙ sets-more before at s t;
     }
 
-pub lined-front : (s before after : List ℕ) (r : ℕ) → length s ≤ length before → Lined s before 0 after r → after ≡ s ++ drop (length s) before
-lined-front s before after r h w =
-    let zero : 0 + length s ≡ length s = omega arith in
-    w .room ∙ sets-eq s before 0 (omega arith) ∙ ap (λ (n : ℕ). s ++ drop n before) zero
+-- from the front on
+pub lined-taken : {s before after : List ℕ} {r : ℕ} → Lined s before 0 after r → length s ≤ length before → take r after ≡ s
+lined-taken {s} {before} {after} {r} w h =
+    let zero : 0 + length s ≤ length before = omega arith in
+    let size : length s ≡ r = omega (arith, w .end) in
+    ap (take r) (w .room ∙ sets-eq s before 0 zero) ∙ take-at s (drop (0 + length s) before) r size
+
+pub length-take-most : (n : ℕ) (l : List ℕ) → length (take n l) ≤ n
+length-take-most n l = omega (arith, length-take n l)
 
 -- ---- a name, byte by byte
 
@@ -150,7 +155,7 @@ module _ (text : List ℕ) (mark : ℕ) (entries : List ℕ) (i : ℕ) where
 -- ---- they are the table's names
 
 module _ (text entries : List ℕ) (table : List Atom) (e : Entries text entries table) (room : length table ≤ length entries) (mark : ℕ) (kind : Atom → Bool)
-         (of-mark : (a : Atom) → eqb (bit (a .marked)) mark ≡ kind a) where
+    (of-mark : (a : Atom) → eqb (bit (a .marked)) mark ≡ kind a) where
   pub lines-table : (i : ℕ) → i ≤ length table → linesBy text mark (take i entries) ≡ flat (λ (n : Word). n ++ lineEnd) (map nameOf (filter kind (take i table)))
   lines-table zero h = refl
   lines-table (suc i) h =

@@ -27,6 +27,7 @@ use Rattle.spelling.specs.Only.{Outcome, back, limit, head, loop, text-only}
 use Rattle.spelling.specs.Table.{tableOf, clashes, Entries}
 use Rattle.spelling.specs.TableLaws.{clashes-clashing}
 use Rattle.grammar.specs.Places.{placeOf}
+use Rattle.writer.specs.Writable.{imageRoom}
 use Rattle.text.specs.Delivered.{delivery}
 
 -- an accepted document: its image at the front, and the table of its names
@@ -34,19 +35,31 @@ pub record Found (text entries image : List ℕ) (size names : ℕ) : Type 0 whe
   pub d : Document
   pub clear : Clear text d
   pub good : decode (imageOf d) ≡ accepted (bookOf d)
-  pub image : take size image ≡ imageOf d
+  pub front : take size image ≡ imageOf d
   pub table : Entries text entries (tableOf (mentions d))
-  pub names : names ≡ length (tableOf (mentions d))
+  pub many : names ≡ length (tableOf (mentions d))
 
 -- refusal 0 tells that there is none
 pub record Made (text entries image : List ℕ) (refusal size names : ℕ) : Type 0 where
-  pub within : size ≤ length image
-  pub few : names ≤ length entries
+  pub room : imageRoom ≤ length image
+  pub long : length entries ≡ longestText
+  pub within : size ≤ imageRoom
+  pub few : names ≤ longestText
   pub refused : (refusal ≡ 0 → ⊥) → (what : Document → List ℕ) (room : ℕ) → Ends what text room (number refusal)
   pub found : refusal ≡ 0 → Found text entries image size names
 
-pub made-refused : (text entries image : List ℕ) (n : ℕ) → (n ≡ 0 → ⊥) → ((what : Document → List ℕ) (room : ℕ) → Ends what text room (number n)) → Made text entries image n 0 0
-made-refused text entries image n h e = record { within = omega arith; few = omega arith; refused = λ _. e; found = λ z. absurd (h z) }
+-- the lengths of what is lent
+abbrev pub Lent : List ℕ → List ℕ → Type 0
+Lent entries image = (imageRoom ≤ length image) × (length entries ≡ longestText)
+
+pub made-refused : (text : List ℕ) {entries image : List ℕ} (n : ℕ) → Lent entries image → (n ≡ 0 → ⊥) → ((what : Document → List ℕ) (room : ℕ) → Ends what text room (number n))
+    → Made text entries image n 0 0
+made-refused text n l h e = record { room = l .0; long = l .1; within = omega arith; few = omega arith; refused = λ _. e; found = λ z. absurd (h z) }
+
+pub made-told : {text entries image : List ℕ} {n refusal size names : ℕ} → (refusal ≡ n) × (size ≡ 0) × (names ≡ 0) → Made text entries image n 0 0 → Made text entries image refusal size names
+made-told {text} {entries} {image} {n} {refusal} {size} (e, f, g) m =
+    subst (λ (k : ℕ). Made text entries image refusal size k) (sym g)
+    (subst (λ (k : ℕ). Made text entries image refusal k 0) (sym f) (subst (λ (k : ℕ). Made text entries image k 0 0) (sym e) m))
 
 -- ---- 50
 
@@ -60,12 +73,12 @@ module _ (what : Document → List ℕ) (text : List ℕ) (room : ℕ) where
 -- the document that was found, and the place of its goal line
 pub placed : (text : List ℕ) → length text ≤ longestText → (placeOf (parse text) ≡ 0 → ⊥)
     → (d : Document) × Says text d × (placeOf (parse text) ≡ suc (length (flat ofStatement (d .statements)))) × (scan false (words text) ≡ mentions d)
-placed text short h = go (parse text) refl
+placed text brief h = go (parse text) refl
   where
     go : (p : Parsed) → parse text ≡ p
         → (d : Document) × Says text d × (placeOf (parse text) ≡ suc (length (flat ofStatement (d .statements)))) × (scan false (words text) ≡ mentions d)
     go unreadable e = absurd (h (ap placeOf e))
-    go (reads d) e = (d, (short, parse-spelt text d .0 e), ap placeOf e, scan-words text d e)
+    go (reads d) e = (d, (brief, parse-spelt text d .0 e), ap placeOf e, scan-words text d e)
 
 -- ---- 51
 

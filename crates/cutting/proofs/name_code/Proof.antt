@@ -1,7 +1,7 @@
 -- `cutting::name_code` meets its contract. Assumes nothing.
 use mathlib.Core.Path.{sym, _∙_}
 use borrow.Author.Needs.{needs}
-use Rattle.cutting.specs.Codes.{code-long, code-small, code-other}
+use Rattle.cutting.specs.RunCodes.{code-long, code-small, code-other}
 use Rattle.cutting.proofs.name_code.Statement.{statement}
 use Rattle.cutting.proofs.name_code.Tie as tie
 

@@ -1,7 +1,7 @@
 -- `cutting::run_code` meets its contract. Assumes nothing.
 use mathlib.Core.Path.{refl, sym, _∙_}
 use borrow.Author.Needs.{needs}
-use Rattle.cutting.specs.Codes.{true-run, false-run, abd-run, naf-run, not-bare, run-coded}
+use Rattle.cutting.specs.RunCodes.{true-run, false-run, abd-run, naf-run, not-bare, run-coded}
 use Rattle.cutting.proofs.run_code.Statement.{statement}
 use Rattle.cutting.proofs.run_code.Tie as tie
 

@@ -3,7 +3,7 @@ use native.Mathlib.Omega.{arith}
 use mathlib.Core.Path.{refl, sym, _∙_}
 use borrow.Author.Needs.{needs}
 use Rattle.spelling.specs.Table.{nameAt}
-use Rattle.cutting.specs.Codes.{long-bare, run-coded}
+use Rattle.cutting.specs.RunCodes.{long-bare, run-coded}
 use Rattle.cutting.specs.Off.{abd-fixed, naf-fixed, fixed-off, no-run, bare-off, unopened-off}
 use Rattle.cutting.proofs.word_at.Statement.{statement}
 use Rattle.cutting.proofs.word_at.Tie as tie
