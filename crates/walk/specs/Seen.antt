@@ -72,19 +72,19 @@ constraint-total s most atoms total at y next e =
 
 -- ---- an alternative, and all of a record
 
-module _ (s : List ℕ) (most : Limits) (atoms end : ℕ) where
+module _ (image : List ℕ) (most : Limits) (atoms end : ℕ) where
   abbrev wayCount : ℕ → ℕ → Step ℕ
-  wayCount total at = field s (wrongAlternative (end - (at + 2)) (most .literals) total) at
+  wayCount total at = field image (wrongAlternative (end - (at + 2)) (most .literals) total) at
 
-  pub way-no-count : (total at : ℕ) {n p : ℕ} → wayCount total at ≡ fault n p → alternative s most atoms end total at ≡ fault n p
+  pub way-no-count : (total at : ℕ) {n p : ℕ} → wayCount total at ≡ fault n p → alternative image most atoms end total at ≡ fault n p
   unfolding alternative
   way-no-count total at e = rw e
 
   pub way-seen : (total at : ℕ) {count next : ℕ} → wayCount total at ≡ found count next
-      → seen length (alternative s most atoms end total at) ≡ poured (λ _. literal s atoms) (λ _. 1) count 0 next
+      → seen length (alternative image most atoms end total at) ≡ poured (λ _. literal image atoms) (λ _. 1) count 0 next
   unfolding alternative poured
   way-seen total at {count = count} {next = next} e =
-      ap (λ (st : Step ℕ). seen length (after st (λ n. times (literal s atoms) n))) e ∙ go (times (literal s atoms) count next)
+      ap (λ (st : Step ℕ). seen length (after st (λ n. times (literal image atoms) n))) e ∙ go (times (literal image atoms) count next)
     where
       go : (st : Step (List Lit)) → seen length st ≡ seen (λ ls. 0 + sum (λ _. 1) ls) st
       go (found ls m) =
@@ -99,10 +99,10 @@ module _ (s : List ℕ) (most : Limits) (atoms end : ℕ) where
     pub on : at + 2 ≤ next
     pub within : next ≤ end
 
-  pub way-ahead : (total at y next : ℕ) → seen length (alternative s most atoms end total at) ≡ found y next → Ahead total at y next
+  pub way-ahead : (total at y next : ℕ) → seen length (alternative image most atoms end total at) ≡ found y next → Ahead total at y next
   way-ahead total at y next e =
-      let f = seen-found length (alternative s most atoms end total at) y next e in
-      let r = alternative-finds s most atoms end total at (f .0) next (f .1) in
+      let f = seen-found length (alternative image most atoms end total at) y next e in
+      let r = alternative-finds image most atoms end total at (f .0) next (f .1) in
       let n : length (f .0) ≡ y = f .2 in
       let b : next ≡ at + 2 * suc (length (ofLits (f .0))) = r .behind in
       let t : total + length (f .0) ≤ most .literals = r .fits in
@@ -110,7 +110,7 @@ module _ (s : List ℕ) (most : Limits) (atoms end : ℕ) where
 
   -- the alternatives from here on, seen as the sum of all literals, those from before included
   unfoldable pub waysSeen : ℕ → ℕ → Walk ℕ
-  waysSeen n total at = seen (λ ways. total + sum length ways) (alternatives s most atoms end n total at)
+  waysSeen n total at = seen (λ ways. total + sum length ways) (alternatives image most atoms end n total at)
 
   pub ways-done : (n total at : ℕ) → end ≤ at → waysSeen n total at ≡ found total at
   unfolding waysSeen alternatives
@@ -120,27 +120,27 @@ module _ (s : List ℕ) (most : Limits) (atoms end : ℕ) where
       ap (seen (λ ways. total + sum length ways)) (choose-false _ _ (le-ltb at end h)) ∙ ap (λ (k : ℕ). found k at) q
 
   ways-step : (n total at : ℕ) → at < end
-      → alternatives s most atoms end (suc n) total at
-      ≡ after (alternative s most atoms end total at) (λ ls at′. after (alternatives s most atoms end n (total + length ls) at′) (λ ways. give (ls ∷ ways)))
+      → alternatives image most atoms end (suc n) total at
+      ≡ after (alternative image most atoms end total at) (λ ls at′. after (alternatives image most atoms end n (total + length ls) at′) (λ ways. give (ls ∷ ways)))
   unfolding alternatives
   ways-step n total at h = choose-true _ _ (lt-ltb at end h)
 
-  pub ways-fault : (n total at m p : ℕ) → at < end → seen length (alternative s most atoms end total at) ≡ fault m p → waysSeen (suc n) total at ≡ fault m p
+  pub ways-fault : (n total at m p : ℕ) → at < end → seen length (alternative image most atoms end total at) ≡ fault m p → waysSeen (suc n) total at ≡ fault m p
   unfolding waysSeen
   ways-fault n total at m p h e =
       ap (seen (λ ways. total + sum length ways)) (ways-step n total at h)
-      ∙ ap (λ (st : Step (List Lit)). seen (λ ways. total + sum length ways) (after st (λ ls at′. after (alternatives s most atoms end n (total + length ls) at′) (λ ways. give (ls ∷ ways)))))
-      (seen-fault length (alternative s most atoms end total at) m p e)
+      ∙ ap (λ (st : Step (List Lit)). seen (λ ways. total + sum length ways) (after st (λ ls at′. after (alternatives image most atoms end n (total + length ls) at′) (λ ways. give (ls ∷ ways)))))
+      (seen-fault length (alternative image most atoms end total at) m p e)
 
-  pub ways-more : (n total at y next : ℕ) → at < end → seen length (alternative s most atoms end total at) ≡ found y next
+  pub ways-more : (n total at y next : ℕ) → at < end → seen length (alternative image most atoms end total at) ≡ found y next
       → waysSeen (suc n) total at ≡ waysSeen n (total + y) next
   unfolding waysSeen
   ways-more n total at y next h e =
-      let f = seen-found length (alternative s most atoms end total at) y next e in
+      let f = seen-found length (alternative image most atoms end total at) y next e in
       ap (seen (λ ways. total + sum length ways)) (ways-step n total at h)
-      ∙ ap (λ (st : Step (List Lit)). seen (λ ways. total + sum length ways) (after st (λ ls at′. after (alternatives s most atoms end n (total + length ls) at′) (λ ways. give (ls ∷ ways)))))
+      ∙ ap (λ (st : Step (List Lit)). seen (λ ways. total + sum length ways) (after st (λ ls at′. after (alternatives image most atoms end n (total + length ls) at′) (λ ways. give (ls ∷ ways)))))
       (f .1)
-      ∙ joins (f .0) (alternatives s most atoms end n (total + length (f .0)) next)
+      ∙ joins (f .0) (alternatives image most atoms end n (total + length (f .0)) next)
       ∙ ap (λ (k : ℕ). waysSeen n (total + k) next) (f .2)
     where
       joins : (ls : List Lit) (st : Step (List (List Lit)))
