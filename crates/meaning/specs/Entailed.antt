@@ -53,28 +53,28 @@ known-literal i v l e = ap (λ (t : Truth). choose (l .sign) t (not₃ t)) e ∙
     go true t = refl
     go false t = known-not t
 
-module _ (v : ℕ → Bool) where
+module _ (values : ℕ → Bool) where
   -- the interpretation that knows each atom's value
   abbrev Knows : ℕ → Truth
-  Knows p = known (v p)
+  Knows p = known (values p)
 
-  known-body : (ls : List Lit) → body ls Knows ≡ known (all-true v ls)
-  known-body ls = known-all (literal Knows) (true-in v) ls (λ l m. known-literal Knows v l refl)
+  known-body : (ls : List Lit) → body ls Knows ≡ known (all-true values ls)
+  known-body ls = known-all (literal Knows) (true-in values) ls (λ l m. known-literal Knows values l refl)
 
-  known-implication : (k : Constraint) → implication k Knows ≡ known (holds v k)
+  known-implication : (k : Constraint) → implication k Knows ≡ known (holds values k)
   known-implication k =
       ap₂ (λ (s t : Truth). or₃ (not₃ s) t) (known-body (k .conditions))
-      (known-any (λ (ls : List Lit). body ls Knows) (all-true v) (k .alternatives) (λ ls m. known-body ls))
-      ∙ ap (λ (t : Truth). or₃ t (known (any (all-true v) (k .alternatives)))) (known-not (all-true v (k .conditions)) ∙ ap known (some-false (k .conditions)))
-      ∙ known-or (any (λ (l : Lit). not (true-in v l)) (k .conditions)) (any (all-true v) (k .alternatives))
+      (known-any (λ (ls : List Lit). body ls Knows) (all-true values) (k .alternatives) (λ ls m. known-body ls))
+      ∙ ap (λ (t : Truth). or₃ t (known (any (all-true values) (k .alternatives)))) (known-not (all-true values (k .conditions)) ∙ ap known (some-false (k .conditions)))
+      ∙ known-or (any (λ (l : Lit). not (true-in values l)) (k .conditions)) (any (all-true values) (k .alternatives))
     where
       step : (s t : Bool) → not (s && t) ≡ (not s || not t)
       step true t = refl
       step false t = refl
 
-      some-false : (ls : List Lit) → not (all-true v ls) ≡ any (λ (l : Lit). not (true-in v l)) ls
+      some-false : (ls : List Lit) → not (all-true values ls) ≡ any (λ (l : Lit). not (true-in values l)) ls
       some-false [] = refl
-      some-false (l ∷ ls) = step (true-in v l) (all-true v ls) ∙ ap (λ (t : Bool). not (true-in v l) || t) (some-false ls)
+      some-false (l ∷ ls) = step (true-in values l) (all-true values ls) ∙ ap (λ (t : Bool). not (true-in values l) || t) (some-false ls)
 
 -- what the completion says of p, in one expression
 completed : Book → ℕ → (ℕ → Truth) → ℕ → Truth

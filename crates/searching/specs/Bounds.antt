@@ -133,22 +133,22 @@ known-named b ls h = every-map (Named b) want ls h
 opposites-known : (b : Book) (ls : List Lit) → Known b ls → Every (Known b) (opposites ls)
 opposites-known b ls h = every-map (Known b) (λ (l : Lit). opposite l ∷ []) ls (λ l m. every-more (h l m) (every-none (λ (k : Lit). k .atom < b .atoms)))
 
-module _ (b : Book) where
-  result-frames : {s : List Lit} {t : Task} {n : Node} → Named b t → Result b s t n → held s t + frames b n ≤ choice t + sum (free b s) (below (b .atoms))
+module _ (book : Book) where
+  result-frames : {s : List Lit} {t : Task} {n : Node} → Named book t → Result book s t n → held s t + frames book n ≤ choice t + sum (free book s) (below (book .atoms))
   unfolding frames held
   result-frames {s} h (gone {l} p q) = omega (arith, choose-true {A = ℕ} 0 1 (∈-on s l q))
   result-frames {s} h (joins {l} {ts} p q m) =
       omega (
         arith,
         choose-false {A = ℕ} 0 1 (∉-off s l q),
-        opens-choices b l ts m,
-        join-frees b s l (unmarked s l p q) (below (b .atoms)) (below-in (b .atoms) (l .atom) h),
+        opens-choices book l ts m,
+        join-frees book s l (unmarked s l p q) (below (book .atoms)) (below-in (book .atoms) (l .atom) h),
       )
   result-frames h (picks {way = way} m) = omega (arith, choices-wanted way)
 
   -- What must still be held never rises from a node to its children, and falls at each step that is held.
-  pub frames-fall : {t : Task} {rest : List Task} {s : List Lit} {c : Node} → Named b t → Child b (record { agenda = t ∷ rest; sheet = s }) c
-      → held s t + frames b c ≤ frames b (record { agenda = t ∷ rest; sheet = s })
+  pub frames-fall : {t : Task} {rest : List Task} {s : List Lit} {c : Node} → Named book t → Child book (record { agenda = t ∷ rest; sheet = s }) c
+      → held s t + frames book c ≤ frames book (record { agenda = t ∷ rest; sheet = s })
   unfolding frames
   frames-fall h (child {t} {rest} {s} {n} r) = omega (arith, result-frames h r, sum-append choice (n .agenda) rest)
 

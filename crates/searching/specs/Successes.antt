@@ -225,25 +225,25 @@ from-set b n x m e =
     ∈-flat (λ (x : Node). reached b (x .agenda) (x .sheet)) (visits b n) m
     (subst (λ (ts : List Task). assumed b (x .sheet) ∈ reached b ts (x .sheet)) (sym e) here)
 
-module _ (b : Book) (o : Orderly b) where
+module _ (book : Book) (orderly : Orderly book) where
   -- A success's set explains, and its members are abducibles.
-  pub sets-explain : (n : Node) → Start b n → (d : ℕ) → d ∈ sets b n → explains b d ≡ true
+  pub sets-explain : (n : Node) → Start book n → (d : ℕ) → d ∈ sets book n → explains book d ≡ true
   sets-explain n start d m =
-      let w = set-from b n m in
-      subst (λ (k : ℕ). explains b k ≡ true) (sym (w .2 .1))
-      (accepted-explains b o (w .0 .sheet) (success-accepted b n (w .0) start (w .1) (w .2 .0)))
+      let w = set-from book n m in
+      subst (λ (k : ℕ). explains book k ≡ true) (sym (w .2 .1))
+      (accepted-explains book orderly (w .0 .sheet) (success-accepted book n (w .0) start (w .1) (w .2 .0)))
 
   -- Inside every set under which the start's tasks can be done lies a success's set.
-  pub sets-under : (n : Node) (d : ℕ) → Agrees b o d n → Some (λ (s : ℕ). Inside s d) (sets b n)
+  pub sets-under : (n : Node) (d : ℕ) → Agrees book orderly d n → Some (λ (s : ℕ). Inside s d) (sets book n)
   sets-under n d h =
-      let w = agrees-success b o d n h in
-      (assumed b (w .0 .sheet), from-set b n (w .0) (w .1) (w .2 .0), right-inside b o d (w .0 .sheet) (w .2 .1))
+      let w = agrees-success book orderly d n h in
+      (assumed book (w .0 .sheet), from-set book n (w .0) (w .1) (w .2 .0), right-inside book orderly d (w .0 .sheet) (w .2 .1))
 
   -- Under a set that explains, the root's tasks can be done.
-  pub root-agrees : (d : ℕ) → explains b d ≡ true → Agrees b o d (root b)
+  pub root-agrees : (d : ℕ) → explains book d ≡ true → Agrees book orderly d (root book)
   root-agrees d e = record {
-    able = root-done (True (value b d)) b (fine-explains b d .1 e);
-    right = every-none (True (value b d));
+    able = root-done (True (value book d)) book (fine-explains book d .1 e);
+    right = every-none (True (value book d));
   }
 
 -- the members of a success's set are abducibles

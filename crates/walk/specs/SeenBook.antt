@@ -26,12 +26,12 @@ module _ {A : Type 0} (s : List ℕ) (most : ℕ) (w : ℕ → Walk A) (at : ℕ
 abbrev pub gone : {A : Type 0} → Step A → Step ℕ
 gone st = seen (λ _. 0) st
 
-module _ (s : List ℕ) (atoms abducibles at : ℕ) where
+module _ (image : List ℕ) (atoms abducibles at : ℕ) where
   abbrev allClauses : Step (List Clause)
-  allClauses = counted s (limits .clauses) (λ n. running (clause s limits atoms abducibles) bodyCount n 0) at
+  allClauses = counted image (limits .clauses) (λ n. running (clause image limits atoms abducibles) bodyCount n 0) at
 
   abbrev allConstraints : ℕ → Step (List Constraint)
-  allConstraints next = counted s (limits .constraints) (λ n. running (constraint s limits atoms) literalCount n 0) next
+  allConstraints next = counted image (limits .constraints) (λ n. running (constraint image limits atoms) literalCount n 0) next
 
   abbrev bodies : List Clause → ℕ
   bodies cs = 0 + sum bodyCount cs
@@ -39,19 +39,19 @@ module _ (s : List ℕ) (atoms abducibles at : ℕ) where
   abbrev literals : List Constraint → ℕ
   literals ks = 0 + sum literalCount ks
 
-  pub both-no-clauses : (n p : ℕ) → seen bodies allClauses ≡ fault n p → gone (clausesAndConstraints s limits atoms abducibles at) ≡ fault n p
+  pub both-no-clauses : (n p : ℕ) → seen bodies allClauses ≡ fault n p → gone (clausesAndConstraints image limits atoms abducibles at) ≡ fault n p
   unfolding clausesAndConstraints
   both-no-clauses n p e = rw (seen-fault bodies allClauses n p e)
 
   pub both-no-constraints : (y next n p : ℕ) → seen bodies allClauses ≡ found y next → seen literals (allConstraints next) ≡ fault n p
-      → gone (clausesAndConstraints s limits atoms abducibles at) ≡ fault n p
+      → gone (clausesAndConstraints image limits atoms abducibles at) ≡ fault n p
   unfolding clausesAndConstraints
   both-no-constraints y next n p e f =
       let g = seen-found bodies allClauses y next e in
       rw (g .1, seen-fault literals (allConstraints next) n p f)
 
   pub both-found : (y next z end : ℕ) → seen bodies allClauses ≡ found y next → seen literals (allConstraints next) ≡ found z end
-      → gone (clausesAndConstraints s limits atoms abducibles at) ≡ found 0 end
+      → gone (clausesAndConstraints image limits atoms abducibles at) ≡ found 0 end
   unfolding clausesAndConstraints
   both-found y next z end e f =
       let g = seen-found bodies allClauses y next e in
