@@ -46,20 +46,20 @@ pub set-there : (w : List ℕ) (i a j : ℕ) → (j ≡ i → ⊥) → getD (set
 set-there w i a j h = getD-set-other w i j a 0 h
 
 -- two numbers side by side
-module _ (w : List ℕ) (i a b : ℕ) where
-  pub pair-stays : AllBut w (set (set w i a) (i + 1) b) i (i + 2)
+module _ (work : List ℕ) (place number next : ℕ) where
+  pub pair-stays : AllBut work (set (set work place number) (place + 1) next) place (place + 2)
   pair-stays j o =
-      set-there (set w i a) (i + 1) b j (λ x. o (omega (arith, x)) (omega (arith, x)))
-      ∙ set-there w i a j (λ x. o (omega (arith, x)) (omega (arith, x)))
+      set-there (set work place number) (place + 1) next j (λ x. o (omega (arith, x)) (omega (arith, x)))
+      ∙ set-there work place number j (λ x. o (omega (arith, x)) (omega (arith, x)))
 
-  pub pair-first : i + 2 ≤ length w → getD (set (set w i a) (i + 1) b) i 0 ≡ a
-  pair-first h = set-there (set w i a) (i + 1) b i (λ x. omega (arith, x)) ∙ set-here w i a (omega arith)
+  pub pair-first : place + 2 ≤ length work → getD (set (set work place number) (place + 1) next) place 0 ≡ number
+  pair-first h = set-there (set work place number) (place + 1) next place (λ x. omega (arith, x)) ∙ set-here work place number (omega arith)
 
-  pub pair-second : i + 2 ≤ length w → getD (set (set w i a) (i + 1) b) (i + 1) 0 ≡ b
-  pair-second h = set-here (set w i a) (i + 1) b (omega (arith, length-set w i a))
+  pub pair-second : place + 2 ≤ length work → getD (set (set work place number) (place + 1) next) (place + 1) 0 ≡ next
+  pair-second h = set-here (set work place number) (place + 1) next (omega (arith, length-set work place number))
 
-  pub pair-length : length (set (set w i a) (i + 1) b) ≡ length w
-  pair-length = length-set (set w i a) (i + 1) b ∙ length-set w i a
+  pub pair-length : length (set (set work place number) (place + 1) next) ≡ length work
+  pair-length = length-set (set work place number) (place + 1) next ∙ length-set work place number
 
 -- what lies behind stays
 pub behind-stays : (w v : List ℕ) (n : ℕ) → length v ≡ length w → ((j : ℕ) → n ≤ j → getD v j 0 ≡ getD w j 0) → drop n v ≡ drop n w
@@ -136,29 +136,29 @@ lit-even y e = λ i. record { atom = y / 2; sign = ap (λ (n : ℕ). eqb n 0) e 
 lit-odd : (y : ℕ) → y % 2 ≡ 1 → litOf y ≡ neg (y / 2)
 lit-odd y e = λ i. record { atom = y / 2; sign = ap (λ (n : ℕ). eqb n 0) e i }
 
-module _ (x : ℕ) where
-  last-bit : bitAnd x 1 ≡ min (x % 2) 1
-  last-bit = let low : bitAnd (x / 2) 0 ≡ 0 = and-zero-r (x / 2) in omega (arith, and-step x 1, low)
+module _ (literal : ℕ) where
+  last-bit : bitAnd literal 1 ≡ min (literal % 2) 1
+  last-bit = let low : bitAnd (literal / 2) 0 ≡ 0 = and-zero-r (literal / 2) in omega (arith, and-step literal 1, low)
 
-  pub flip-small : x < literalNumbers → bitXor x 1 < literalNumbers
-  flip-small h = ⊎-elim (λ e. omega (arith, e, xor-add-and x 1, last-bit)) (λ e. omega (arith, e, xor-add-and x 1, last-bit)) (parity x)
+  pub flip-small : literal < literalNumbers → bitXor literal 1 < literalNumbers
+  flip-small h = ⊎-elim (λ e. omega (arith, e, xor-add-and literal 1, last-bit)) (λ e. omega (arith, e, xor-add-and literal 1, last-bit)) (parity literal)
 
-  pub flip-lit : litOf (bitXor x 1) ≡ opposite (litOf x)
-  flip-lit = ⊎-elim even odd (parity x)
+  pub flip-lit : litOf (bitXor literal 1) ≡ opposite (litOf literal)
+  flip-lit = ⊎-elim even odd (parity literal)
     where
-      even : x % 2 ≡ 0 → litOf (bitXor x 1) ≡ opposite (litOf x)
+      even : literal % 2 ≡ 0 → litOf (bitXor literal 1) ≡ opposite (litOf literal)
       even e =
-          let up : bitXor x 1 ≡ x + 1 = omega (arith, e, xor-add-and x 1, last-bit) in
-          let o : (x + 1) % 2 ≡ 1 = omega arith in
-          let half : (x + 1) / 2 ≡ x / 2 = omega arith in
-          ap litOf up ∙ lit-odd (x + 1) o ∙ ap neg half ∙ ap opposite (sym (lit-even x e))
+          let up : bitXor literal 1 ≡ literal + 1 = omega (arith, e, xor-add-and literal 1, last-bit) in
+          let o : (literal + 1) % 2 ≡ 1 = omega arith in
+          let half : (literal + 1) / 2 ≡ literal / 2 = omega arith in
+          ap litOf up ∙ lit-odd (literal + 1) o ∙ ap neg half ∙ ap opposite (sym (lit-even literal e))
 
-      odd : x % 2 ≡ 1 → litOf (bitXor x 1) ≡ opposite (litOf x)
+      odd : literal % 2 ≡ 1 → litOf (bitXor literal 1) ≡ opposite (litOf literal)
       odd e =
-          let down : bitXor x 1 ≡ x - 1 = omega (arith, e, xor-add-and x 1, last-bit) in
-          let o : (x - 1) % 2 ≡ 0 = omega arith in
-          let half : (x - 1) / 2 ≡ x / 2 = omega arith in
-          ap litOf down ∙ lit-even (x - 1) o ∙ ap pos half ∙ ap opposite (sym (lit-odd x e))
+          let down : bitXor literal 1 ≡ literal - 1 = omega (arith, e, xor-add-and literal 1, last-bit) in
+          let o : (literal - 1) % 2 ≡ 0 = omega arith in
+          let half : (literal - 1) / 2 ≡ literal / 2 = omega arith in
+          ap litOf down ∙ lit-even (literal - 1) o ∙ ap pos half ∙ ap opposite (sym (lit-odd literal e))
 
 -- ---- lists
 
@@ -231,17 +231,17 @@ pub record OppositesLaying (image work : List ℕ) (start first n next : ℕ) (a
   pub row : (hi : ℕ) (lss : List (List Lit)) → start + wayWidth * n ≤ hi → Row image (of work) (start + wayWidth * n) hi next lss
       → Row image (of after) (start + wayWidth * i) hi link (opposites (litsAt image (first + 2 * i) left) ++ lss)
 
-module _ (image work : List ℕ) (start first n next : ℕ) where
-  pub opposites-start : OppositesLaying image work start first n next work n next
+module _ (image work : List ℕ) (start first count next : ℕ) where
+  pub opposites-start : OppositesLaying image work start first count next work count next
   unfolding litsAt
   opposites-start = record { left = 0; sum = omega arith; size = refl; stays = λ j o. refl; row = λ hi lss h r. r }
 
-  pub opposites-step : (after : List ℕ) (i link x : ℕ) → OppositesDue image work start first n → 1 ≤ i → OppositesLaying image work start first n next after i link → x ≡ bitXor (fieldAt image (first + 2 * (i - 1))) 1
-      → OppositesLaying image work start first n next (set (set after (start + wayWidth * (i - 1)) x) (start + wayWidth * (i - 1) + 1) link) (i - 1) (start + wayWidth * (i - 1))
+  pub opposites-step : (after : List ℕ) (i link x : ℕ) → OppositesDue image work start first count → 1 ≤ i → OppositesLaying image work start first count next after i link → x ≡ bitXor (fieldAt image (first + 2 * (i - 1))) 1
+      → OppositesLaying image work start first count next (set (set after (start + wayWidth * (i - 1)) x) (start + wayWidth * (i - 1) + 1) link) (i - 1) (start + wayWidth * (i - 1))
   unfolding litsAt
   opposites-step after i link x g p o e =
       let at : ℕ = start + wayWidth * (i - 1) in
-      let low : i ≤ n = omega (arith, o .sum) in
+      let low : i ≤ count = omega (arith, o .sum) in
       let fits : at + 2 ≤ length after = omega (arith, o .size, g .long, g .room) in
       record {
         left = suc (o .left);
@@ -267,13 +267,13 @@ module _ (image work : List ℕ) (start first n next : ℕ) where
   -- all are
   pub record OppositesLaid (after : List ℕ) (link : ℕ) : Type 0 where
     pub size : length after ≡ length work
-    pub stays : AllBut work after start (start + wayWidth * n)
-    pub row : (hi : ℕ) (lss : List (List Lit)) → start + wayWidth * n ≤ hi → Row image (of work) (start + wayWidth * n) hi next lss
-        → Row image (of after) start hi link (opposites (litsAt image first n) ++ lss)
+    pub stays : AllBut work after start (start + wayWidth * count)
+    pub row : (hi : ℕ) (lss : List (List Lit)) → start + wayWidth * count ≤ hi → Row image (of work) (start + wayWidth * count) hi next lss
+        → Row image (of after) start hi link (opposites (litsAt image first count) ++ lss)
 
-  pub opposites-end : (after : List ℕ) (i link : ℕ) → i ≡ 0 → OppositesLaying image work start first n next after i link → OppositesLaid after link
+  pub opposites-end : (after : List ℕ) (i link : ℕ) → i ≡ 0 → OppositesLaying image work start first count next after i link → OppositesLaid after link
   opposites-end after i link z o =
-      let all : o .left ≡ n = omega (arith, o .sum) in
+      let all : o .left ≡ count = omega (arith, o .sum) in
       let from : start + wayWidth * i ≡ start = omega arith in
       let first′ : first + 2 * i ≡ first = omega arith in
       record {

@@ -55,48 +55,48 @@ abbrev pub linking : List ℕ → ℕ → ℕ → List ℕ
 linking after c y =
     set (set (set (set after (clauseWay c + 1) (getD after y 0)) (clauseRecord c + 1) (shut (getD after (y + 1) 0))) y (clauseWay c)) (y + 1) (clauseRecord c)
 
-module _ (after : List ℕ) (c y : ℕ) where
-  linking-length : length (linking after c y) ≡ length after
+module _ (after : List ℕ) (clause entry : ℕ) where
+  linking-length : length (linking after clause entry) ≡ length after
   linking-length = simp length-set
 
-  linking-other : (j : ℕ) → (j ≡ clauseWay c + 1 → ⊥) → (j ≡ clauseRecord c + 1 → ⊥) → (j ≡ y → ⊥) → (j ≡ y + 1 → ⊥) → getD (linking after c y) j 0 ≡ getD after j 0
+  linking-other : (j : ℕ) → (j ≡ clauseWay clause + 1 → ⊥) → (j ≡ clauseRecord clause + 1 → ⊥) → (j ≡ entry → ⊥) → (j ≡ entry + 1 → ⊥) → getD (linking after clause entry) j 0 ≡ getD after j 0
   linking-other j p q r t =
-      set-there (set (set (set after (clauseWay c + 1) (getD after y 0)) (clauseRecord c + 1) (shut (getD after (y + 1) 0))) y (clauseWay c)) (y + 1) (clauseRecord c) j t
-      ∙ set-there (set (set after (clauseWay c + 1) (getD after y 0)) (clauseRecord c + 1) (shut (getD after (y + 1) 0))) y (clauseWay c) j r
-      ∙ set-there (set after (clauseWay c + 1) (getD after y 0)) (clauseRecord c + 1) (shut (getD after (y + 1) 0)) j q
-      ∙ set-there after (clauseWay c + 1) (getD after y 0) j p
+      set-there (set (set (set after (clauseWay clause + 1) (getD after entry 0)) (clauseRecord clause + 1) (shut (getD after (entry + 1) 0))) entry (clauseWay clause)) (entry + 1) (clauseRecord clause) j t
+      ∙ set-there (set (set after (clauseWay clause + 1) (getD after entry 0)) (clauseRecord clause + 1) (shut (getD after (entry + 1) 0))) entry (clauseWay clause) j r
+      ∙ set-there (set after (clauseWay clause + 1) (getD after entry 0)) (clauseRecord clause + 1) (shut (getD after (entry + 1) 0)) j q
+      ∙ set-there after (clauseWay clause + 1) (getD after entry 0) j p
 
-  module _ (low : y < clauseRecords) (few : c < limits .clauses) (long : Long after) where
-    l1 : length (set after (clauseWay c + 1) (getD after y 0)) ≡ length after
-    l1 = length-set after (clauseWay c + 1) (getD after y 0)
+  module _ (low : entry < clauseRecords) (few : clause < limits .clauses) (long : Long after) where
+    l1 : length (set after (clauseWay clause + 1) (getD after entry 0)) ≡ length after
+    l1 = length-set after (clauseWay clause + 1) (getD after entry 0)
 
-    l2 : length (set (set after (clauseWay c + 1) (getD after y 0)) (clauseRecord c + 1) (shut (getD after (y + 1) 0))) ≡ length after
+    l2 : length (set (set after (clauseWay clause + 1) (getD after entry 0)) (clauseRecord clause + 1) (shut (getD after (entry + 1) 0))) ≡ length after
     l2 = simp length-set
 
-    l3 : length (set (set (set after (clauseWay c + 1) (getD after y 0)) (clauseRecord c + 1) (shut (getD after (y + 1) 0))) y (clauseWay c)) ≡ length after
+    l3 : length (set (set (set after (clauseWay clause + 1) (getD after entry 0)) (clauseRecord clause + 1) (shut (getD after (entry + 1) 0))) entry (clauseWay clause)) ≡ length after
     l3 = simp length-set
 
-    linking-way : y + 1 < clauseRecords → getD (linking after c y) (clauseWay c + 1) 0 ≡ getD after y 0
+    linking-way : entry + 1 < clauseRecords → getD (linking after clause entry) (clauseWay clause + 1) 0 ≡ getD after entry 0
     linking-way h =
-        set-there (set (set (set after (clauseWay c + 1) (getD after y 0)) (clauseRecord c + 1) (shut (getD after (y + 1) 0))) y (clauseWay c)) (y + 1) (clauseRecord c) (clauseWay c + 1) (λ z. omega (arith, z))
-        ∙ set-there (set (set after (clauseWay c + 1) (getD after y 0)) (clauseRecord c + 1) (shut (getD after (y + 1) 0))) y (clauseWay c) (clauseWay c + 1) (λ z. omega (arith, z))
-        ∙ set-there (set after (clauseWay c + 1) (getD after y 0)) (clauseRecord c + 1) (shut (getD after (y + 1) 0)) (clauseWay c + 1) (λ z. omega (arith, z))
-        ∙ set-here after (clauseWay c + 1) (getD after y 0) (omega arith)
+        set-there (set (set (set after (clauseWay clause + 1) (getD after entry 0)) (clauseRecord clause + 1) (shut (getD after (entry + 1) 0))) entry (clauseWay clause)) (entry + 1) (clauseRecord clause) (clauseWay clause + 1) (λ z. omega (arith, z))
+        ∙ set-there (set (set after (clauseWay clause + 1) (getD after entry 0)) (clauseRecord clause + 1) (shut (getD after (entry + 1) 0))) entry (clauseWay clause) (clauseWay clause + 1) (λ z. omega (arith, z))
+        ∙ set-there (set after (clauseWay clause + 1) (getD after entry 0)) (clauseRecord clause + 1) (shut (getD after (entry + 1) 0)) (clauseWay clause + 1) (λ z. omega (arith, z))
+        ∙ set-here after (clauseWay clause + 1) (getD after entry 0) (omega arith)
 
-    linking-record : y + 1 < clauseRecords → getD (linking after c y) (clauseRecord c + 1) 0 ≡ shut (getD after (y + 1) 0)
+    linking-record : entry + 1 < clauseRecords → getD (linking after clause entry) (clauseRecord clause + 1) 0 ≡ shut (getD after (entry + 1) 0)
     linking-record h =
-        set-there (set (set (set after (clauseWay c + 1) (getD after y 0)) (clauseRecord c + 1) (shut (getD after (y + 1) 0))) y (clauseWay c)) (y + 1) (clauseRecord c) (clauseRecord c + 1) (λ z. omega (arith, z))
-        ∙ set-there (set (set after (clauseWay c + 1) (getD after y 0)) (clauseRecord c + 1) (shut (getD after (y + 1) 0))) y (clauseWay c) (clauseRecord c + 1) (λ z. omega (arith, z))
-        ∙ set-here (set after (clauseWay c + 1) (getD after y 0)) (clauseRecord c + 1) (shut (getD after (y + 1) 0)) (omega (arith, l1))
+        set-there (set (set (set after (clauseWay clause + 1) (getD after entry 0)) (clauseRecord clause + 1) (shut (getD after (entry + 1) 0))) entry (clauseWay clause)) (entry + 1) (clauseRecord clause) (clauseRecord clause + 1) (λ z. omega (arith, z))
+        ∙ set-there (set (set after (clauseWay clause + 1) (getD after entry 0)) (clauseRecord clause + 1) (shut (getD after (entry + 1) 0))) entry (clauseWay clause) (clauseRecord clause + 1) (λ z. omega (arith, z))
+        ∙ set-here (set after (clauseWay clause + 1) (getD after entry 0)) (clauseRecord clause + 1) (shut (getD after (entry + 1) 0)) (omega (arith, l1))
 
-    linking-first : getD (linking after c y) y 0 ≡ clauseWay c
+    linking-first : getD (linking after clause entry) entry 0 ≡ clauseWay clause
     linking-first =
-        set-there (set (set (set after (clauseWay c + 1) (getD after y 0)) (clauseRecord c + 1) (shut (getD after (y + 1) 0))) y (clauseWay c)) (y + 1) (clauseRecord c) y (λ z. omega (arith, z))
-        ∙ set-here (set (set after (clauseWay c + 1) (getD after y 0)) (clauseRecord c + 1) (shut (getD after (y + 1) 0))) y (clauseWay c) (omega (arith, l2))
+        set-there (set (set (set after (clauseWay clause + 1) (getD after entry 0)) (clauseRecord clause + 1) (shut (getD after (entry + 1) 0))) entry (clauseWay clause)) (entry + 1) (clauseRecord clause) entry (λ z. omega (arith, z))
+        ∙ set-here (set (set after (clauseWay clause + 1) (getD after entry 0)) (clauseRecord clause + 1) (shut (getD after (entry + 1) 0))) entry (clauseWay clause) (omega (arith, l2))
 
-    linking-second : getD (linking after c y) (y + 1) 0 ≡ clauseRecord c
+    linking-second : getD (linking after clause entry) (entry + 1) 0 ≡ clauseRecord clause
     linking-second =
-        set-here (set (set (set after (clauseWay c + 1) (getD after y 0)) (clauseRecord c + 1) (shut (getD after (y + 1) 0))) y (clauseWay c)) (y + 1) (clauseRecord c) (omega (arith, l3))
+        set-here (set (set (set after (clauseWay clause + 1) (getD after entry 0)) (clauseRecord clause + 1) (shut (getD after (entry + 1) 0))) entry (clauseWay clause)) (entry + 1) (clauseRecord clause) (omega (arith, l3))
 
 module _ (work : List ℕ) (count : ℕ) (pre : Unlinked work count) where
   pub linked-start : Linked work count work count

@@ -31,23 +31,23 @@ use Rattle.memory.specs.Chains.{chain-ahead, chain-none, chain-empty, fine-less
 use Rattle.memory.specs.Contracts.{Moved, StandingIn, Backed, back-to, over}
 
 -- a frame on top of the trail's end
-data Top (image : List ℕ) (b : Book) (tab : ℕ → ℕ) (work : List ℕ) (k : ℕ) : ℕ → List Lit → List Node → Type 0 where
+data Top (image : List ℕ) (book : Book) (tab : ℕ → ℕ) (work : List ℕ) (level : ℕ) : ℕ → List Lit → List Node → Type 0 where
   proved : {m used : ℕ} {sheet : List Lit} {due : List Node} {rest : List Task} {ls : List Lit} {lss : List (List Lit)}
-      → Frame image b tab work k (suc m) sheet (ls ∷ lss) → Leads image b tab work m (frameAgenda work k) rest
-      → Every (Fine b (suc k)) (byWays rest sheet (ls ∷ lss))
-      → used ≤ m → Held image b tab work k (suc m) used sheet due → Top image b tab work k (suc m) sheet (byWays rest sheet (ls ∷ lss) ++ due)
+      → Frame image book tab work level (suc m) sheet (ls ∷ lss) → Leads image book tab work m (frameAgenda work level) rest
+      → Every (Fine book (suc level)) (byWays rest sheet (ls ∷ lss))
+      → used ≤ m → Held image book tab work level (suc m) used sheet due → Top image book tab work level (suc m) sheet (byWays rest sheet (ls ∷ lss) ++ due)
   picked : {m used : ℕ} {sheet : List Lit} {due : List Node} {rest : List Task} {ls : List Lit} {lss : List (List Lit)}
-      → Frame image b tab work k m sheet (ls ∷ lss) → Free image b tab work m m (frameAgenda work k) rest (ls ∷ lss)
-      → Every (Fine b (suc k)) (byWays rest sheet (ls ∷ lss))
-      → Held image b tab work k m used sheet due → Top image b tab work k m sheet (byWays rest sheet (ls ∷ lss) ++ due)
+      → Frame image book tab work level m sheet (ls ∷ lss) → Free image book tab work m m (frameAgenda work level) rest (ls ∷ lss)
+      → Every (Fine book (suc level)) (byWays rest sheet (ls ∷ lss))
+      → Held image book tab work level m used sheet due → Top image book tab work level m sheet (byWays rest sheet (ls ∷ lss) ++ due)
 
 -- n marks off, the frame is on top; `bare` is the area with some marks off already
-record Peeled (image : List ℕ) (b : Book) (tab : ℕ → ℕ) (work : List ℕ) (k : ℕ) (due : List Node) (bare : List ℕ) (m : ℕ) : Type 0 where
+record Peeled (image : List ℕ) (book : Book) (tab : ℕ → ℕ) (work : List ℕ) (level : ℕ) (due : List Node) (bare : List ℕ) (m : ℕ) : Type 0 where
   base : ℕ
   n : ℕ
   is : m ≡ base + n
   sheet : List Lit
-  top : Top image b tab work k base sheet due
+  top : Top image book tab work level base sheet due
   trail : Trail (undone bare (entryAt base) n) base sheet
   area : Tabled tab (undone bare (entryAt base) n) sheet
   same : Same work (undone bare (entryAt base) n) layout.literals layout.end
@@ -58,9 +58,9 @@ last-or-before : (j n : ℕ) → j < suc n → (j < n) ⊎ (j ≡ n)
 last-or-before j n h =
     ⊎-elim (λ e. inl (ltb-true j n e)) (λ e. inr (let up : n ≤ j = ltb-false j n e in omega arith)) (decide (ltb j n))
 
-module _ {image : List ℕ} {b : Book} {tab : ℕ → ℕ} {work : List ℕ} {k : ℕ} where
+module _ {image : List ℕ} {book : Book} {tab : ℕ → ℕ} {work : List ℕ} {level : ℕ} where
   -- one mark more
-  peel-more : {due : List Node} (bare : List ℕ) (y m : ℕ) → entryLiteral bare m ≡ y → y < layout.literalNumbers → Peeled image b tab work k due (set bare (y / 2) 0) m → Peeled image b tab work k due bare (suc m)
+  peel-more : {due : List Node} (bare : List ℕ) (y m : ℕ) → entryLiteral bare m ≡ y → y < layout.literalNumbers → Peeled image book tab work level due (set bare (y / 2) 0) m → Peeled image book tab work level due bare (suc m)
   unfolding undone
   peel-more bare y m e l x = record {
     base = x .base;
@@ -91,8 +91,8 @@ module _ {image : List ℕ} {b : Book} {tab : ℕ → ℕ} {work : List ℕ} {k 
       newest : (j : ℕ) → j ≡ x .n → getD bare (entryAt (x .base) + layout.trailWidth * j + layout.cellWidth) 0 < layout.literalNumbers
       newest j h = subst (λ (i : ℕ). getD bare (entryAt (x .base) + layout.trailWidth * i + layout.cellWidth) 0 < layout.literalNumbers) (sym h) (subst (λ (i : ℕ). i < layout.literalNumbers) (sym read) l)
 
-  peel : {m used : ℕ} {sheet : List Lit} {due : List Node} (bare : List ℕ) → Held image b tab work (suc k) m used sheet due → Trail bare m sheet → Tabled tab bare sheet → Same work bare layout.literals layout.end
-      → Peeled image b tab work k due bare m
+  peel : {m used : ℕ} {sheet : List Lit} {due : List Node} (bare : List ℕ) → Held image book tab work (suc level) m used sheet due → Trail bare m sheet → Tabled tab bare sheet → Same work bare layout.literals layout.end
+      → Peeled image book tab work level due bare m
   unfolding undone
   peel bare (proving {m = m} {sheet = sheet} fr a fs u h) t ar sm =
       record { base = suc m; n = 0; is = omega arith; sheet = sheet; top = proved fr a fs u h; trail = t; area = ar; same = sm; later = refl; literals = λ j q. absurd (omega arith) }
@@ -106,8 +106,8 @@ module _ {image : List ℕ} {b : Book} {tab : ℕ → ℕ} {work : List ℕ} {k 
 
 -- ---- the newest frame gives its next way
 
-top-places : {image : List ℕ} {b : Book} {tab : ℕ → ℕ} {work : List ℕ} {k m : ℕ} {sheet : List Lit} {due : List Node} → Top image b tab work k m sheet due
-    → (layout.ways ≤ frameWay work k) × (frameWay work k + 1 < layout.trail) × (frameMarks work k ≡ entryAt m) × (suc k ≤ layout.mostFrames)
+top-places : {image : List ℕ} {book : Book} {tab : ℕ → ℕ} {work : List ℕ} {level m : ℕ} {sheet : List Lit} {due : List Node} → Top image book tab work level m sheet due
+    → (layout.ways ≤ frameWay work level) × (frameWay work level + 1 < layout.trail) × (frameMarks work level ≡ entryAt m) × (suc level ≤ layout.mostFrames)
 top-places (proved fr a fs u h) = let c = chain-ahead (fr .ways) in (c .low, c .high, fr .marked, omega (arith, every-first fs .0))
 top-places (picked fr a fs h) = let c = chain-ahead (fr .ways) in (c .low, c .high, fr .marked, omega (arith, every-first fs .0))
 
@@ -136,101 +136,101 @@ keep-free image b tab h f (older q a) = absurd (omega arith)
 keep-free image b tab h f (short a k) = short (leads-same image b tab f a) (every-rest k)
 keep-free image b tab h f (empty e l t) = empty e l (tail-same image b tab f t)
 
-module _ (image : List ℕ) (b : Book) (tab : ℕ → ℕ) (work : List ℕ) (k : ℕ) (run : Run) (bare : List ℕ) (same : Same work bare layout.literals layout.end) (few : suc k ≤ layout.mostFrames) where
+module _ (image : List ℕ) (book : Book) (tab : ℕ → ℕ) (work : List ℕ) (level : ℕ) (run : Run) (bare : List ℕ) (same : Same work bare layout.literals layout.end) (few : suc level ≤ layout.mostFrames) where
   -- the next way written in the frame
   abbrev over-written : List ℕ
-  over-written = set bare (frameAt k + wayAt) (tab (frameWay work k + 1))
+  over-written = set bare (frameAt level + wayAt) (tab (frameWay work level + 1))
 
-  stays : Same work over-written layout.literals (frameAt k + wayAt)
-  stays j p q = getD-set-other bare (frameAt k + wayAt) j (tab (frameWay work k + 1)) 0 (λ z. omega (arith, z)) ∙ same j p (omega arith)
+  stays : Same work over-written layout.literals (frameAt level + wayAt)
+  stays j p q = getD-set-other bare (frameAt level + wayAt) j (tab (frameWay work level + 1)) 0 (λ z. omega (arith, z)) ∙ same j p (omega arith)
 
-  word-stays : (i : ℕ) → i < wayAt → frame over-written k i ≡ frame work k i
-  word-stays i q = stays (frameAt k + i) (omega arith) (omega arith)
+  word-stays : (i : ℕ) → i < wayAt → frame over-written level i ≡ frame work level i
+  word-stays i q = stays (frameAt level + i) (omega arith) (omega arith)
 
-  word-bare : (i : ℕ) → i < layout.frameWidth → frame bare k i ≡ frame work k i
-  word-bare i q = same (frameAt k + i) (omega arith) (omega arith)
+  word-bare : (i : ℕ) → i < layout.frameWidth → frame bare level i ≡ frame work level i
+  word-bare i q = same (frameAt level + i) (omega arith) (omega arith)
 
-  module _ (m : ℕ) (sheet : List Lit) (g : Ground image b tab) (t : Trail bare m sheet) (a : Tabled tab bare sheet) where
-    few-marks : m ≤ limits .atoms
-    few-marks = trail-few t
+  module _ (base : ℕ) (sheet : List Lit) (ground : Ground image book tab) (trail : Trail bare base sheet) (area : Tabled tab bare sheet) where
+    few-marks : base ≤ limits .atoms
+    few-marks = trail-few trail
 
-    entries : Same work over-written layout.trail (entryAt m)
+    entries : Same work over-written layout.trail (entryAt base)
     entries j p q = stays j (omega arith) (omega (arith, few-marks))
 
-    held-stays : {used : ℕ} {due : List Node} → Held image b tab work k m used sheet due → Held image b tab over-written k m used sheet due
+    held-stays : {used : ℕ} {due : List Node} → Held image book tab work level base used sheet due → Held image book tab over-written level base used sheet due
     held-stays {used} h =
-        let most : used ≤ m = held-used image b tab h in
-        held-same image b tab (λ j p q. stays j (omega arith) (omega arith)) (λ j p q. entries j p (omega arith)) h
+        let most : used ≤ base = held-used image book tab h in
+        held-same image book tab (λ j p q. stays j (omega arith) (omega arith)) (λ j p q. entries j p (omega arith)) h
 
-    built : (height used : ℕ) (rest : List Task) (ls : List Lit) (due : List Node) → frameSet bare k ≡ assumed b sheet
-        → Held image b tab over-written height m used sheet due
-        → Free image b tab over-written m used (frameAgenda work k) rest (ls ∷ []) → Listed image tab (tab (frameWay work k)) ls
-        → Fine b height (nodeOf (map want ls ++ rest) sheet)
-        → Holds image b over-written (back-run bare k run (entryAt m) (frameAt height) (tab (frameWay work k))) (nodeOf (map want ls ++ rest) sheet ∷ due)
+    built : (height used : ℕ) (rest : List Task) (ls : List Lit) (due : List Node) → frameSet bare level ≡ assumed book sheet
+        → Held image book tab over-written height base used sheet due
+        → Free image book tab over-written base used (frameAgenda work level) rest (ls ∷ []) → Listed image tab (tab (frameWay work level)) ls
+        → Fine book height (nodeOf (map want ls ++ rest) sheet)
+        → Holds image book over-written (back-run bare level run (entryAt base) (frameAt height) (tab (frameWay work level))) (nodeOf (map want ls ++ rest) sheet ∷ due)
     built height used rest ls due set h fr l fn = record {
       tab = tab;
       height = height;
-      marks = m;
+      marks = base;
       used = used;
       sheet = sheet;
       due = due;
-      ground = g;
-      area = tabled-same (length-set bare (frameAt k + wayAt) (tab (frameWay work k + 1))) (λ j p q. getD-set-other bare (frameAt k + wayAt) j (tab (frameWay work k + 1)) 0 (λ z. omega (arith, z))) a;
-      trail = trail-same (λ j p. getD-set-other bare (frameAt k + wayAt) (entryAt j + layout.cellWidth) (tab (frameWay work k + 1)) 0 (λ z. omega (arith, z, few-marks))) t;
+      ground = ground;
+      area = tabled-same (length-set bare (frameAt level + wayAt) (tab (frameWay work level + 1))) (λ j p q. getD-set-other bare (frameAt level + wayAt) j (tab (frameWay work level + 1)) 0 (λ z. omega (arith, z))) area;
+      trail = trail-same (λ j p. getD-set-other bare (frameAt level + wayAt) (entryAt j + layout.cellWidth) (tab (frameWay work level + 1)) 0 (λ z. omega (arith, z, few-marks))) trail;
       held = h;
       chosen = set;
       marked = refl;
       top = refl;
-      hand = list l (free-at image b tab (same-agenda work bare k (λ i q. word-bare i (omega arith))) fr) fn;
+      hand = list l (free-at image book tab (same-agenda work bare level (λ i q. word-bare i (omega arith))) fr) fn;
     }
 
-    set-same : {lss : List (List Lit)} → Frame image b tab work k m sheet lss → frameSet bare k ≡ assumed b sheet
+    set-same : {lss : List (List Lit)} → Frame image book tab work level base sheet lss → frameSet bare level ≡ assumed book sheet
     set-same fr = ap₂ (λ (x y : ℕ). x + bits32 * y) (word-bare 1 (omega arith)) (word-bare 2 (omega arith)) ∙ fr .set
 
-    popped : (used : ℕ) (rest : List Task) (ls : List Lit) (lss : List (List Lit)) (due : List Node) → tab (frameWay work k + 1) ≡ layout.noLink → Frame image b tab work k m sheet (ls ∷ lss)
-        → Free image b tab over-written m used (frameAgenda work k) rest (ls ∷ []) → Every (Fine b (suc k)) (byWays rest sheet (ls ∷ lss))
-        → Held image b tab work k m used sheet due
-        → Holds image b over-written (back-run bare k run (entryAt m) (frameAt k) (tab (frameWay work k))) (byWays rest sheet (ls ∷ lss) ++ due)
+    popped : (used : ℕ) (rest : List Task) (ls : List Lit) (lss : List (List Lit)) (due : List Node) → tab (frameWay work level + 1) ≡ layout.noLink → Frame image book tab work level base sheet (ls ∷ lss)
+        → Free image book tab over-written base used (frameAgenda work level) rest (ls ∷ []) → Every (Fine book (suc level)) (byWays rest sheet (ls ∷ lss))
+        → Held image book tab work level base used sheet due
+        → Holds image book over-written (back-run bare level run (entryAt base) (frameAt level) (tab (frameWay work level))) (byWays rest sheet (ls ∷ lss) ++ due)
     popped used rest ls lss due z fr free fs h =
         let c = chain-ahead (fr .ways) in
         let none : lss ≡ [] = chain-none (c .others) z in
-        subst (λ (l : List (List Lit)). Holds image b over-written (back-run bare k run (entryAt m) (frameAt k) (tab (frameWay work k))) (byWays rest sheet (ls ∷ l) ++ due)) (sym none)
-        (built k used rest ls due (set-same fr) (held-stays h) free (c .first) (fine-less b (nodeOf (map want ls ++ rest) sheet) k (every-first fs)))
+        subst (λ (l : List (List Lit)). Holds image book over-written (back-run bare level run (entryAt base) (frameAt level) (tab (frameWay work level))) (byWays rest sheet (ls ∷ l) ++ due)) (sym none)
+        (built level used rest ls due (set-same fr) (held-stays h) free (c .first) (fine-less book (nodeOf (map want ls ++ rest) sheet) level (every-first fs)))
 
-    frame-next : (ls : List Lit) (lss : List (List Lit)) → Frame image b tab work k m sheet (ls ∷ lss) → frameAt k + wayAt < length bare → Frame image b tab over-written k m sheet lss
+    frame-next : (ls : List Lit) (lss : List (List Lit)) → Frame image book tab work level base sheet (ls ∷ lss) → frameAt level + wayAt < length bare → Frame image book tab over-written level base sheet lss
     frame-next ls lss fr room =
         record {
           marked = word-stays 0 (omega arith) ∙ fr .marked;
           set = ap₂ (λ (x y : ℕ). x + bits32 * y) (word-stays 1 (omega arith)) (word-stays 2 (omega arith)) ∙ fr .set;
-          ways = subst (λ (n : ℕ). Chain image tab n lss) (sym (getD-set-same bare (frameAt k + wayAt) (tab (frameWay work k + 1)) 0 room)) (chain-ahead (fr .ways) .others);
+          ways = subst (λ (n : ℕ). Chain image tab n lss) (sym (getD-set-same bare (frameAt level + wayAt) (tab (frameWay work level + 1)) 0 room)) (chain-ahead (fr .ways) .others);
         }
 
   -- the last way: the frame goes
-  pop-holds : (m : ℕ) (sheet : List Lit) (due : List Node) → Ground image b tab → Trail bare m sheet → Tabled tab bare sheet → Top image b tab work k m sheet due → tab (frameWay work k + 1) ≡ layout.noLink
-      → Holds image b over-written (back-run bare k run (entryAt m) (frameAt k) (tab (frameWay work k))) due
-  pop-holds m sheet due g t a (proved {m = n} {used} {due = below} {rest} {ls} {lss} fr ag fs u h) z =
-      popped m sheet g t a used rest ls lss below z fr (older u (leads-same image b tab (λ j p q. entries m sheet g t a j p (omega arith)) ag)) fs h
-  pop-holds m sheet due g t a (picked {used = used} {due = below} {rest} {ls} {lss} fr free fs h) z =
-      popped m sheet g t a used rest ls lss below z fr (back-free image b tab used (le-refl m) (entries m sheet g t a) free) fs h
+  pop-holds : (base : ℕ) (sheet : List Lit) (due : List Node) → Ground image book tab → Trail bare base sheet → Tabled tab bare sheet → Top image book tab work level base sheet due → tab (frameWay work level + 1) ≡ layout.noLink
+      → Holds image book over-written (back-run bare level run (entryAt base) (frameAt level) (tab (frameWay work level))) due
+  pop-holds base sheet due ground trail area (proved {m = n} {used} {due = below} {rest} {ls} {lss} fr ag fs u h) z =
+      popped base sheet ground trail area used rest ls lss below z fr (older u (leads-same image book tab (λ j p q. entries base sheet ground trail area j p (omega arith)) ag)) fs h
+  pop-holds base sheet due ground trail area (picked {used = used} {due = below} {rest} {ls} {lss} fr free fs h) z =
+      popped base sheet ground trail area used rest ls lss below z fr (back-free image book tab used (le-refl base) (entries base sheet ground trail area) free) fs h
 
   -- another way is left: the frame stays
-  keep-holds : (m : ℕ) (sheet : List Lit) (due : List Node) → Ground image b tab → Trail bare m sheet → Tabled tab bare sheet → Top image b tab work k m sheet due → (tab (frameWay work k + 1) ≡ layout.noLink → ⊥)
-      → Holds image b over-written (back-run bare k run (entryAt m) (frameAt (suc k)) (tab (frameWay work k))) due
-  keep-holds m sheet due g t a (proved {m = n} {used} {due = below} {rest} {ls} {lss = []} fr ag fs u h) nz = absurd (nz (chain-empty (chain-ahead (fr .ways) .others)))
-  keep-holds m sheet due g t a (proved {m = n} {used} {due = below} {rest} {ls} {lss = l2 ∷ lss} fr ag fs u h) nz =
-      let ag′ : Leads image b tab over-written n (frameAgenda work k) rest = leads-same image b tab (λ j p q. entries m sheet g t a j p (omega arith)) ag in
-      let room : frameAt k + wayAt < length bare = omega (arith, a .long) in
-      built m sheet g t a (suc k) n rest ls (byWays rest sheet (l2 ∷ lss) ++ below) (set-same m sheet g t a fr)
-      (proving (frame-next m sheet g t a ls (l2 ∷ lss) fr room)
-      (leads-at image b tab (same-agenda work over-written k word-stays) ag′) (every-rest fs) u (held-stays m sheet g t a h))
+  keep-holds : (base : ℕ) (sheet : List Lit) (due : List Node) → Ground image book tab → Trail bare base sheet → Tabled tab bare sheet → Top image book tab work level base sheet due → (tab (frameWay work level + 1) ≡ layout.noLink → ⊥)
+      → Holds image book over-written (back-run bare level run (entryAt base) (frameAt (suc level)) (tab (frameWay work level))) due
+  keep-holds base sheet due ground trail area (proved {m = n} {used} {due = below} {rest} {ls} {lss = []} fr ag fs u h) nz = absurd (nz (chain-empty (chain-ahead (fr .ways) .others)))
+  keep-holds base sheet due ground trail area (proved {m = n} {used} {due = below} {rest} {ls} {lss = l2 ∷ lss} fr ag fs u h) nz =
+      let ag′ : Leads image book tab over-written n (frameAgenda work level) rest = leads-same image book tab (λ j p q. entries base sheet ground trail area j p (omega arith)) ag in
+      let room : frameAt level + wayAt < length bare = omega (arith, area .long) in
+      built base sheet ground trail area (suc level) n rest ls (byWays rest sheet (l2 ∷ lss) ++ below) (set-same base sheet ground trail area fr)
+      (proving (frame-next base sheet ground trail area ls (l2 ∷ lss) fr room)
+      (leads-at image book tab (same-agenda work over-written level word-stays) ag′) (every-rest fs) u (held-stays base sheet ground trail area h))
       (older (le-refl n) ag′) (chain-ahead (fr .ways) .first) (every-first fs)
-  keep-holds m sheet due g t a (picked {used = used} {due = below} {rest} {ls} {lss = []} fr free fs h) nz = absurd (nz (chain-empty (chain-ahead (fr .ways) .others)))
-  keep-holds m sheet due g t a (picked {used = used} {due = below} {rest} {ls} {lss = l2 ∷ lss} fr free fs h) nz =
-      let room : frameAt k + wayAt < length bare = omega (arith, a .long) in
-      built m sheet g t a (suc k) m rest ls (byWays rest sheet (l2 ∷ lss) ++ below) (set-same m sheet g t a fr)
-      (picking (frame-next m sheet g t a ls (l2 ∷ lss) fr room)
-      (free-at image b tab (same-agenda work over-written k word-stays) (keep-free image b tab (le-refl m) (entries m sheet g t a) free)) (every-rest fs) (held-stays m sheet g t a h))
-      (back-free image b tab m (le-refl m) (entries m sheet g t a) free) (chain-ahead (fr .ways) .first) (every-first fs)
+  keep-holds base sheet due ground trail area (picked {used = used} {due = below} {rest} {ls} {lss = []} fr free fs h) nz = absurd (nz (chain-empty (chain-ahead (fr .ways) .others)))
+  keep-holds base sheet due ground trail area (picked {used = used} {due = below} {rest} {ls} {lss = l2 ∷ lss} fr free fs h) nz =
+      let room : frameAt level + wayAt < length bare = omega (arith, area .long) in
+      built base sheet ground trail area (suc level) base rest ls (byWays rest sheet (l2 ∷ lss) ++ below) (set-same base sheet ground trail area fr)
+      (picking (frame-next base sheet ground trail area ls (l2 ∷ lss) fr room)
+      (free-at image book tab (same-agenda work over-written level word-stays) (keep-free image book tab (le-refl base) (entries base sheet ground trail area) free)) (every-rest fs) (held-stays base sheet ground trail area h))
+      (back-free image book tab base (le-refl base) (entries base sheet ground trail area) free) (chain-ahead (fr .ways) .first) (every-first fs)
 
 -- ---- as the code does it
 
@@ -240,14 +240,14 @@ run-back bare run f d x k d′ top x′ p q i j = rw (p, q, i, j) refl
 run-popped : (bare : List ℕ) (run : Run) (f d x k d′ top x′ : ℕ) → f ≡ frameAt k → d ≡ d′ → x ≡ x′ → f ≡ top → giving (lowered (restoring bare run f d) f) LIST x ≡ back-run bare k run d′ top x′
 run-popped bare run f d x k d′ top x′ p q i j = rw (q, i) (subst (λ (n : ℕ). giving (lowered (restoring bare run f d′) f) LIST x′ ≡ back-run bare k run d′ n x′) j (rw p refl))
 
-module _ {image : List ℕ} {b : Book} {work : List ℕ} {run : Run} {all : List Node} (h : Holds image b work run all) (st : run .state ≡ FAILED) where
-  all-due : all ≡ h .due
-  all-due = go (in-hand h st)
+module _ {image : List ℕ} {book : Book} {work : List ℕ} {run : Run} {all : List Node} (memory : Holds image book work run all) (st : run .state ≡ FAILED) where
+  all-due : all ≡ memory .due
+  all-due = go (in-hand memory st)
     where
-      go : {xs : List Node} → HandIn h FAILED (run .task) (run .agenda) xs → xs ≡ h .due
+      go : {xs : List Node} → HandIn memory FAILED (run .task) (run .agenda) xs → xs ≡ memory .due
       go failed = refl
 
-  held-none : {k m used : ℕ} {sheet : List Lit} {due : List Node} → k ≡ 0 → Held image b (h .tab) work k m used sheet due → due ≡ []
+  held-none : {k m used : ℕ} {sheet : List Lit} {due : List Node} → k ≡ 0 → Held image book (memory .tab) work k m used sheet due → due ≡ []
   held-none e bottom = refl
   held-none e (under x) = held-none e x
   held-none e (proving f a i u x) = absurd (omega arith)
@@ -255,51 +255,51 @@ module _ {image : List ℕ} {b : Book} {work : List ℕ} {run : Run} {all : List
 
   -- no frame: nothing is due
   nothing-due : run .top ≡ layout.frames → all ≡ []
-  nothing-due t = all-due ∙ held-none (omega (arith, h .top)) (h .held)
+  nothing-due t = all-due ∙ held-none (omega (arith, memory .top)) (memory .held)
 
   module _ (ne : run .top ≡ layout.frames → ⊥) where
-    up : h .height ≡ suc (h .height - 1)
-    up = positive (h .height) (λ z. ne (omega (arith, h .top, z)))
+    up : memory .height ≡ suc (memory .height - 1)
+    up = positive (memory .height) (λ z. ne (omega (arith, memory .top, z)))
       where
         positive : (n : ℕ) → (n ≡ 0 → ⊥) → n ≡ suc (n - 1)
         positive zero f = absurd (f refl)
         positive (suc n) f = omega arith
 
-    peeled : Peeled image b (h .tab) work (h .height - 1) (h .due) work (h .marks)
-    peeled = peel work (subst (λ (n : ℕ). Held image b (h .tab) work n (h .marks) (h .used) (h .sheet) (h .due)) up (h .held)) (h .trail) (h .area) (λ j p q. refl)
+    peeled : Peeled image book (memory .tab) work (memory .height - 1) (memory .due) work (memory .marks)
+    peeled = peel work (subst (λ (n : ℕ). Held image book (memory .tab) work n (memory .marks) (memory .used) (memory .sheet) (memory .due)) up (memory .held)) (memory .trail) (memory .area) (λ j p q. refl)
 
-    place : run .top - layout.frameWidth ≡ frameAt (h .height - 1)
-    place = omega (arith, h .top, up)
+    place : run .top - layout.frameWidth ≡ frameAt (memory .height - 1)
+    place = omega (arith, memory .top, up)
 
-    places : (layout.ways ≤ frameWay work (h .height - 1)) × (frameWay work (h .height - 1) + 1 < layout.trail) × (frameMarks work (h .height - 1) ≡ entryAt (peeled .base)) × (suc (h .height - 1) ≤ layout.mostFrames)
+    places : (layout.ways ≤ frameWay work (memory .height - 1)) × (frameWay work (memory .height - 1) + 1 < layout.trail) × (frameMarks work (memory .height - 1) ≡ entryAt (peeled .base)) × (suc (memory .height - 1) ≤ layout.mostFrames)
     places = top-places (peeled .top)
 
     back-room : (layout.frames + layout.frameWidth ≤ run .top) × (run .top ≤ layout.end) × (layout.Long work)
-    back-room = (omega (arith, h .top, up), omega (arith, h .top, up, places .3), h .area .long)
+    back-room = (omega (arith, memory .top, up), omega (arith, memory .top, up, places .3), memory .area .long)
 
-    module _ (down : ℕ) (d : down ≡ getD work (run .top - layout.frameWidth) 0) where
+    module _ (down : ℕ) (is-down : down ≡ getD work (run .top - layout.frameWidth) 0) where
       down-is : down ≡ entryAt (peeled .base)
-      down-is = d ∙ ap (λ (i : ℕ). getD work i 0) (omega (arith, place)) ∙ places .2
+      down-is = is-down ∙ ap (λ (i : ℕ). getD work i 0) (omega (arith, place)) ∙ places .2
 
       back-undoable : Undoable work (run .marked) down
       back-undoable = record {
         count = peeled .n;
-        is = omega (arith, h .marked, down-is, peeled .is);
+        is = omega (arith, memory .marked, down-is, peeled .is);
         low = omega (arith, down-is);
-        high = omega (arith, h .marked, trail-few (h .trail));
-        long = h .area .long;
+        high = omega (arith, memory .marked, trail-few (memory .trail));
+        long = memory .area .long;
         literals = λ j q. subst (λ (i : ℕ). getD work (i + layout.trailWidth * j + layout.cellWidth) 0 < layout.literalNumbers) (sym down-is) (peeled .literals j q);
       }
 
-      module _ (bare : List ℕ) (e : bare ≡ undone work down ((run .marked - down) / layout.trailWidth)) where
+      module _ (bare : List ℕ) (is-bare : bare ≡ undone work down ((run .marked - down) / layout.trailWidth)) where
         undone-is : undone work (entryAt (peeled .base)) (peeled .n) ≡ bare
-        undone-is = ap₂ (undone work) (sym down-is) (omega (arith, h .marked, down-is, peeled .is)) ∙ sym e
+        undone-is = ap₂ (undone work) (sym down-is) (omega (arith, memory .marked, down-is, peeled .is)) ∙ sym is-bare
 
         bare-same : Same work bare layout.literals layout.end
         bare-same = subst (λ (l : List ℕ). Same work l layout.literals layout.end) undone-is (peeled .same)
 
-        bare-area : Tabled (h .tab) bare (peeled .sheet)
-        bare-area = subst (λ (l : List ℕ). Tabled (h .tab) l (peeled .sheet)) undone-is (peeled .area)
+        bare-area : Tabled (memory .tab) bare (peeled .sheet)
+        bare-area = subst (λ (l : List ℕ). Tabled (memory .tab) l (peeled .sheet)) undone-is (peeled .area)
 
         bare-trail : Trail bare (peeled .base) (peeled .sheet)
         bare-trail = subst (λ (l : List ℕ). Trail l (peeled .base) (peeled .sheet)) undone-is (peeled .trail)
@@ -307,37 +307,37 @@ module _ {image : List ℕ} {b : Book} {work : List ℕ} {run : Run} {all : List
         bare-later : drop layout.end bare ≡ drop layout.end work
         bare-later = ap (drop layout.end) (sym undone-is) ∙ peeled .later
 
-        module _ (n : ℕ) (i : n ≡ getD bare (run .top - layout.frameWidth + wayAt) 0) where
-          way-is : n ≡ frameWay work (h .height - 1)
-          way-is = i ∙ ap (λ (x : ℕ). getD bare x 0) (omega (arith, place)) ∙ bare-same (frameAt (h .height - 1) + wayAt) (omega arith) (omega (arith, places .3))
+        module _ (way : ℕ) (is-way : way ≡ getD bare (run .top - layout.frameWidth + wayAt) 0) where
+          way-is : way ≡ frameWay work (memory .height - 1)
+          way-is = is-way ∙ ap (λ (x : ℕ). getD bare x 0) (omega (arith, place)) ∙ bare-same (frameAt (memory .height - 1) + wayAt) (omega arith) (omega (arith, places .3))
 
-          back-way : (n + 1 < layout.trail) × (layout.Long bare)
+          back-way : (way + 1 < layout.trail) × (layout.Long bare)
           back-way = (omega (arith, way-is, places .1), bare-area .long)
 
-          module _ (more x : ℕ) (j : more ≡ getD bare (n + 1) 0) (l : x ≡ getD bare n 0) where
-            more-is : more ≡ h .tab (frameWay work (h .height - 1) + 1)
-            more-is = j ∙ ap (λ (y : ℕ). getD bare (y + 1) 0) way-is ∙ bare-area .tabled (frameWay work (h .height - 1) + 1) (omega (arith, places .0)) (places .1)
+          module _ (more list : ℕ) (is-more : more ≡ getD bare (way + 1) 0) (is-list : list ≡ getD bare way 0) where
+            more-is : more ≡ memory .tab (frameWay work (memory .height - 1) + 1)
+            more-is = is-more ∙ ap (λ (y : ℕ). getD bare (y + 1) 0) way-is ∙ bare-area .tabled (frameWay work (memory .height - 1) + 1) (omega (arith, places .0)) (places .1)
 
-            list-is : x ≡ h .tab (frameWay work (h .height - 1))
-            list-is = l ∙ ap (λ (y : ℕ). getD bare y 0) way-is ∙ bare-area .tabled (frameWay work (h .height - 1)) (omega (arith, places .0)) (omega (arith, places .1))
+            list-is : list ≡ memory .tab (frameWay work (memory .height - 1))
+            list-is = is-list ∙ ap (λ (y : ℕ). getD bare y 0) way-is ∙ bare-area .tabled (frameWay work (memory .height - 1)) (omega (arith, places .0)) (omega (arith, places .1))
 
-            written : set bare (run .top - layout.frameWidth + wayAt) more ≡ set bare (frameAt (h .height - 1) + wayAt) (h .tab (frameWay work (h .height - 1) + 1))
+            written : set bare (run .top - layout.frameWidth + wayAt) more ≡ set bare (frameAt (memory .height - 1) + wayAt) (memory .tab (frameWay work (memory .height - 1) + 1))
             written = ap₂ (λ (y z : ℕ). set bare y z) (omega (arith, place)) more-is
 
-            back-pops : more ≡ layout.noLink → Holds image b (set bare (run .top - layout.frameWidth + wayAt) more) (giving (lowered (restoring bare run (run .top - layout.frameWidth) down) (run .top - layout.frameWidth)) LIST x) all
+            back-pops : more ≡ layout.noLink → Holds image book (set bare (run .top - layout.frameWidth + wayAt) more) (giving (lowered (restoring bare run (run .top - layout.frameWidth) down) (run .top - layout.frameWidth)) LIST list) all
             back-pops z =
-                subst (λ (l : List Node). Holds image b (set bare (run .top - layout.frameWidth + wayAt) more) (giving (lowered (restoring bare run (run .top - layout.frameWidth) down) (run .top - layout.frameWidth)) LIST x) l) (sym all-due)
-                (subst₂ (λ (l : List ℕ) (o : Run). Holds image b l o (h .due)) (sym written)
-                (sym (run-popped bare run (run .top - layout.frameWidth) down x (h .height - 1) (entryAt (peeled .base)) (frameAt (h .height - 1)) (h .tab (frameWay work (h .height - 1))) place down-is list-is place))
-                (pop-holds image b (h .tab) work (h .height - 1) run bare bare-same (places .3) (peeled .base) (peeled .sheet) (h .due) (h .ground) bare-trail bare-area (peeled .top) (sym more-is ∙ z)))
+                subst (λ (l : List Node). Holds image book (set bare (run .top - layout.frameWidth + wayAt) more) (giving (lowered (restoring bare run (run .top - layout.frameWidth) down) (run .top - layout.frameWidth)) LIST list) l) (sym all-due)
+                (subst₂ (λ (l : List ℕ) (o : Run). Holds image book l o (memory .due)) (sym written)
+                (sym (run-popped bare run (run .top - layout.frameWidth) down list (memory .height - 1) (entryAt (peeled .base)) (frameAt (memory .height - 1)) (memory .tab (frameWay work (memory .height - 1))) place down-is list-is place))
+                (pop-holds image book (memory .tab) work (memory .height - 1) run bare bare-same (places .3) (peeled .base) (peeled .sheet) (memory .due) (memory .ground) bare-trail bare-area (peeled .top) (sym more-is ∙ z)))
 
-            back-keeps : (more ≡ layout.noLink → ⊥) → Holds image b (set bare (run .top - layout.frameWidth + wayAt) more) (giving (restoring bare run (run .top - layout.frameWidth) down) LIST x) all
+            back-keeps : (more ≡ layout.noLink → ⊥) → Holds image book (set bare (run .top - layout.frameWidth + wayAt) more) (giving (restoring bare run (run .top - layout.frameWidth) down) LIST list) all
             back-keeps nz =
-                let high : run .top ≡ frameAt (suc (h .height - 1)) = omega (arith, h .top, up) in
-                subst (λ (l : List Node). Holds image b (set bare (run .top - layout.frameWidth + wayAt) more) (giving (restoring bare run (run .top - layout.frameWidth) down) LIST x) l) (sym all-due)
-                (subst₂ (λ (l : List ℕ) (o : Run). Holds image b l o (h .due)) (sym written)
-                (sym (run-back bare run (run .top - layout.frameWidth) down x (h .height - 1) (entryAt (peeled .base)) (frameAt (suc (h .height - 1))) (h .tab (frameWay work (h .height - 1))) place down-is list-is high))
-                (keep-holds image b (h .tab) work (h .height - 1) run bare bare-same (places .3) (peeled .base) (peeled .sheet) (h .due) (h .ground) bare-trail bare-area (peeled .top) (λ z. nz (more-is ∙ z))))
+                let high : run .top ≡ frameAt (suc (memory .height - 1)) = omega (arith, memory .top, up) in
+                subst (λ (l : List Node). Holds image book (set bare (run .top - layout.frameWidth + wayAt) more) (giving (restoring bare run (run .top - layout.frameWidth) down) LIST list) l) (sym all-due)
+                (subst₂ (λ (l : List ℕ) (o : Run). Holds image book l o (memory .due)) (sym written)
+                (sym (run-back bare run (run .top - layout.frameWidth) down list (memory .height - 1) (entryAt (peeled .base)) (frameAt (suc (memory .height - 1))) (memory .tab (frameWay work (memory .height - 1))) place down-is list-is high))
+                (keep-holds image book (memory .tab) work (memory .height - 1) run bare bare-same (places .3) (peeled .base) (peeled .sheet) (memory .due) (memory .ground) bare-trail bare-area (peeled .top) (λ z. nz (more-is ∙ z))))
 
 module _ (work : List ℕ) (run : Run) (pre : StandingIn work run FAILED) where
   failing : run .state ≡ FAILED
@@ -350,43 +350,43 @@ module _ (work : List ℕ) (run : Run) (pre : StandingIn work run FAILED) where
     pub frame-room : (layout.frames + layout.frameWidth ≤ run .top) × (run .top ≤ layout.end) × (layout.Long work)
     frame-room = back-room (pre .1 .holds) failing ne
 
-    module _ (down : ℕ) (d : down ≡ getD work (run .top - layout.frameWidth) 0) where
+    module _ (down : ℕ) (is-down : down ≡ getD work (run .top - layout.frameWidth) 0) where
       pub frame-undoable : Undoable work (run .marked) down
-      frame-undoable = back-undoable (pre .1 .holds) failing ne down d
+      frame-undoable = back-undoable (pre .1 .holds) failing ne down is-down
 
-      module _ (bare : List ℕ) (e : bare ≡ undone work down ((run .marked - down) / layout.trailWidth)) (n : ℕ) (i : n ≡ getD bare (run .top - layout.frameWidth + wayAt) 0) where
-        pub frame-way : (n + 1 < layout.trail) × (layout.Long bare)
-        frame-way = back-way (pre .1 .holds) failing ne down d bare e n i
+      module _ (bare : List ℕ) (is-bare : bare ≡ undone work down ((run .marked - down) / layout.trailWidth)) (way : ℕ) (is-way : way ≡ getD bare (run .top - layout.frameWidth + wayAt) 0) where
+        pub frame-way : (way + 1 < layout.trail) × (layout.Long bare)
+        frame-way = back-way (pre .1 .holds) failing ne down is-down bare is-bare way is-way
 
-        module _ (more x : ℕ) (j : more ≡ getD bare (n + 1) 0) (l : x ≡ getD bare n 0) (p q : Run) (o : p ≡ restoring bare run (run .top - layout.frameWidth) down) where
+        module _ (more list : ℕ) (is-more : more ≡ getD bare (way + 1) 0) (is-list : list ≡ getD bare way 0) (restored run′ : Run) (is-restored : restored ≡ restoring bare run (run .top - layout.frameWidth) down) where
           later-same : drop layout.end (set bare (run .top - layout.frameWidth + wayAt) more) ≡ drop layout.end work
           later-same =
               drop-set-lt layout.end bare (run .top - layout.frameWidth + wayAt) more (omega (arith, frame-room .0, frame-room .1))
-              ∙ bare-later (pre .1 .holds) failing ne down d bare e
+              ∙ bare-later (pre .1 .holds) failing ne down is-down bare is-bare
 
-          pub backed-pops : (t : Run) → more ≡ layout.noLink → t ≡ lowered p (run .top - layout.frameWidth) → q ≡ giving t LIST x → Backed work run (set bare (run .top - layout.frameWidth + wayAt) more) q
+          pub backed-pops : (t : Run) → more ≡ layout.noLink → t ≡ lowered restored (run .top - layout.frameWidth) → run′ ≡ giving t LIST list → Backed work run (set bare (run .top - layout.frameWidth + wayAt) more) run′
           backed-pops t z y u =
-              let becomes : q ≡ giving (lowered (restoring bare run (run .top - layout.frameWidth) down) (run .top - layout.frameWidth)) LIST x =
-              u ∙ ap (λ (g : Run). giving g LIST x) (y ∙ ap (λ (g : Run). lowered g (run .top - layout.frameWidth)) o) in
+              let becomes : run′ ≡ giving (lowered (restoring bare run (run .top - layout.frameWidth) down) (run .top - layout.frameWidth)) LIST list =
+              u ∙ ap (λ (g : Run). giving g LIST list) (y ∙ ap (λ (g : Run). lowered g (run .top - layout.frameWidth)) is-restored) in
               back-to
               (λ image.
               subst (λ (g : Run). Moved image work run (set bare (run .top - layout.frameWidth + wayAt) more) g LIST) (sym becomes)
               (record {
-                holds = λ b all h. back-pops h failing ne down d bare e n i more x j l z;
+                holds = λ b all h. back-pops h failing ne down is-down bare is-bare way is-way more list is-more is-list z;
                 state = omega arith;
                 nodes = refl;
                 count = refl;
                 later = later-same;
               }))
 
-          pub backed-keeps : (more ≡ layout.noLink → ⊥) → q ≡ giving p LIST x → Backed work run (set bare (run .top - layout.frameWidth + wayAt) more) q
+          pub backed-keeps : (more ≡ layout.noLink → ⊥) → run′ ≡ giving restored LIST list → Backed work run (set bare (run .top - layout.frameWidth + wayAt) more) run′
           backed-keeps nz u =
-              let becomes : q ≡ giving (restoring bare run (run .top - layout.frameWidth) down) LIST x = u ∙ ap (λ (g : Run). giving g LIST x) o in
+              let becomes : run′ ≡ giving (restoring bare run (run .top - layout.frameWidth) down) LIST list = u ∙ ap (λ (g : Run). giving g LIST list) is-restored in
               back-to
               (λ image.
               subst (λ (g : Run). Moved image work run (set bare (run .top - layout.frameWidth + wayAt) more) g LIST) (sym becomes)
               (record {
-                holds = λ b all h. back-keeps h failing ne down d bare e n i more x j l nz;
+                holds = λ b all h. back-keeps h failing ne down is-down bare is-bare way is-way more list is-more is-list nz;
                 state = omega arith;
                 nodes = refl;
                 count = refl;

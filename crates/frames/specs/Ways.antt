@@ -70,135 +70,135 @@ module _ (work : List ℕ) (run : Run) (more : ℕ) where
 
 -- ---- the first way is taken
 
-module _ {image : List ℕ} {b : Book} {work : List ℕ} {run : Run} {all : List Node} (h : Holds image b work run all) (st : run .state ≡ WAY) where
+module _ {image : List ℕ} {book : Book} {work : List ℕ} {run : Run} {all : List Node} (memory : Holds image book work run all) (st : run .state ≡ WAY) where
   record Taking : Type 0 where
     ts : List Task
     ls : List Lit
     lss : List (List Lit)
-    ahead : Ahead image (h .tab) (run .task) ls lss
-    free : Free image b (h .tab) work (h .marks) (h .used) (run .agenda) ts (ls ∷ lss)
-    fines : Every (Fine b (suc (h .height))) (byWays ts (h .sheet) (ls ∷ lss))
-    is : all ≡ byWays ts (h .sheet) (ls ∷ lss) ++ h .due
+    ahead : Ahead image (memory .tab) (run .task) ls lss
+    free : Free image book (memory .tab) work (memory .marks) (memory .used) (run .agenda) ts (ls ∷ lss)
+    fines : Every (Fine book (suc (memory .height))) (byWays ts (memory .sheet) (ls ∷ lss))
+    is : all ≡ byWays ts (memory .sheet) (ls ∷ lss) ++ memory .due
 
   taking : Taking
-  taking = go (in-hand h st) refl
+  taking = go (in-hand memory st) refl
     where
-      go : {xs : List Node} → HandIn h WAY (run .task) (run .agenda) xs → all ≡ xs → Taking
+      go : {xs : List Node} → HandIn memory WAY (run .task) (run .agenda) xs → all ≡ xs → Taking
       go (way {ts} {ls} {lss} c a f) i = record { ts = ts; ls = ls; lss = lss; ahead = chain-ahead c; free = a; fines = f; is = i }
 
   pub way-places : (run .task + 1 < layout.trail) × (layout.Long work)
-  way-places = (taking .ahead .high, h .area .long)
+  way-places = (taking .ahead .high, memory .area .long)
 
   pub way-pushable : Pushable work run
   way-pushable =
       let v = taking in
-      let few : h .marks ≤ limits .atoms = trail-few (h .trail) in
-      let sm = free-small (h .ground) few (v .free) in
-      let deep : suc (h .height) ≤ layout.mostFrames = omega (arith, every-first (v .fines) .0) in
+      let few : memory .marks ≤ limits .atoms = trail-few (memory .trail) in
+      let sm = free-small (memory .ground) few (v .free) in
+      let deep : suc (memory .height) ≤ layout.mostFrames = omega (arith, every-first (v .fines) .0) in
       record {
-        layable = record { low = omega (arith, h .marked); high = omega (arith, h .marked); long = h .area .long; at = sm .0; end = sm .1; link = omega (arith, sm .2) };
-        above = omega (arith, h .top);
-        room = omega (arith, h .top);
+        layable = record { low = omega (arith, memory .marked); high = omega (arith, memory .marked); long = memory .area .long; at = sm .0; end = sm .1; link = omega (arith, sm .2) };
+        above = omega (arith, memory .top);
+        room = omega (arith, memory .top);
       }
 
-  task-word : getD work (run .task) 0 ≡ h .tab (run .task)
-  task-word = let v = taking in h .area .tabled (run .task) (omega (arith, v .ahead .low)) (omega (arith, v .ahead .high))
+  task-word : getD work (run .task) 0 ≡ memory .tab (run .task)
+  task-word = let v = taking in memory .area .tabled (run .task) (omega (arith, v .ahead .low)) (omega (arith, v .ahead .high))
 
-  more-word : getD work (run .task + 1) 0 ≡ h .tab (run .task + 1)
-  more-word = let v = taking in h .area .tabled (run .task + 1) (omega (arith, v .ahead .low)) (v .ahead .high)
+  more-word : getD work (run .task + 1) 0 ≡ memory .tab (run .task + 1)
+  more-word = let v = taking in memory .area .tabled (run .task + 1) (omega (arith, v .ahead .low)) (v .ahead .high)
 
   -- one way only
-  pub way-single : getD work (run .task + 1) 0 ≡ layout.noLink → Holds image b work (giving run LIST (getD work (run .task) 0)) all
+  pub way-single : getD work (run .task + 1) 0 ≡ layout.noLink → Holds image book work (giving run LIST (getD work (run .task) 0)) all
   way-single z =
       let v = taking in
       let none : v .lss ≡ [] = chain-none (v .ahead .others) (sym more-word ∙ z) in
-      let a : Free image b (h .tab) work (h .marks) (h .used) (run .agenda) (v .ts) (v .ls ∷ []) =
-      subst (λ (l : List (List Lit)). Free image b (h .tab) work (h .marks) (h .used) (run .agenda) (v .ts) (v .ls ∷ l)) none (v .free) in
-      with-hand h (giving run LIST (getD work (run .task) 0)) refl refl refl
-      (subst (HandIn h LIST (getD work (run .task) 0) (run .agenda))
-      (sym (v .is ∙ ap (λ (l : List (List Lit)). byWays (v .ts) (h .sheet) (v .ls ∷ l) ++ h .due) none))
-      (list (subst (λ (n : ℕ). Listed image (h .tab) n (v .ls)) (sym task-word) (v .ahead .first)) a (fine-less b (nodeOf (map want (v .ls) ++ v .ts) (h .sheet)) (h .height) (every-first (v .fines)))))
+      let a : Free image book (memory .tab) work (memory .marks) (memory .used) (run .agenda) (v .ts) (v .ls ∷ []) =
+      subst (λ (l : List (List Lit)). Free image book (memory .tab) work (memory .marks) (memory .used) (run .agenda) (v .ts) (v .ls ∷ l)) none (v .free) in
+      with-hand memory (giving run LIST (getD work (run .task) 0)) refl refl refl
+      (subst (HandIn memory LIST (getD work (run .task) 0) (run .agenda))
+      (sym (v .is ∙ ap (λ (l : List (List Lit)). byWays (v .ts) (memory .sheet) (v .ls ∷ l) ++ memory .due) none))
+      (list (subst (λ (n : ℕ). Listed image (memory .tab) n (v .ls)) (sym task-word) (v .ahead .first)) a (fine-less book (nodeOf (map want (v .ls) ++ v .ts) (memory .sheet)) (memory .height) (every-first (v .fines)))))
 
   -- and a frame for the others
   pub way-pushed : (getD work (run .task + 1) 0 ≡ layout.noLink → ⊥)
-      → Holds image b (pushed work run (getD work (run .task + 1) 0)) (giving (risen run) LIST (getD work (run .task) 0)) all
-  way-pushed nz = go (taking .lss) (h .marks) (h .used) (taking .ahead .others) (h .trail) (h .held) (h .marked) (taking .free) (taking .fines) (taking .is)
+      → Holds image book (pushed work run (getD work (run .task + 1) 0)) (giving (risen run) LIST (getD work (run .task) 0)) all
+  way-pushed nz = go (taking .lss) (memory .marks) (memory .used) (taking .ahead .others) (memory .trail) (memory .held) (memory .marked) (taking .free) (taking .fines) (taking .is)
     where
       room : run .top + layout.frameWidth ≤ length work
-      room = omega (arith, way-pushable .room, h .area .long)
+      room = omega (arith, way-pushable .room, memory .area .long)
 
       same : Same work (pushed work run (getD work (run .task + 1) 0)) 0 layout.frames
       same j p q = pushed-below work run (getD work (run .task + 1) 0) j p (omega (arith, way-pushable .above))
 
-      word : (n : ℕ) → n < layout.frameWidth → frame (pushed work run (getD work (run .task + 1) 0)) (h .height) n
+      word : (n : ℕ) → n < layout.frameWidth → frame (pushed work run (getD work (run .task + 1) 0)) (memory .height) n
           ≡ getD (run .marked ∷ run .set % bits32 ∷ run .set / bits32 ∷ run .agenda .at ∷ run .agenda .end ∷ run .agenda .link ∷ getD work (run .task + 1) 0 ∷ []) n 0
       word n q =
-          ap (λ (x : ℕ). getD (pushed work run (getD work (run .task + 1) 0)) x 0) (omega (arith, h .top)) ∙ pushed-word work run (getD work (run .task + 1) 0) n room q
+          ap (λ (x : ℕ). getD (pushed work run (getD work (run .task + 1) 0)) x 0) (omega (arith, memory .top)) ∙ pushed-word work run (getD work (run .task + 1) 0) n room q
 
-      as-pushed : frameAgenda (pushed work run (getD work (run .task + 1) 0)) (h .height) ≡ run .agenda
+      as-pushed : frameAgenda (pushed work run (getD work (run .task + 1) 0)) (memory .height) ≡ run .agenda
       as-pushed = agenda-is (word 3 (omega arith)) (word 4 (omega arith)) (word 5 (omega arith))
 
-      new : {m : ℕ} {lss : List (List Lit)} → run .marked ≡ entryAt m → Chain image (h .tab) (h .tab (run .task + 1)) lss
-          → Frame image b (h .tab) (pushed work run (getD work (run .task + 1) 0)) (h .height) m (h .sheet) lss
+      new : {m : ℕ} {lss : List (List Lit)} → run .marked ≡ entryAt m → Chain image (memory .tab) (memory .tab (run .task + 1)) lss
+          → Frame image book (memory .tab) (pushed work run (getD work (run .task + 1) 0)) (memory .height) m (memory .sheet) lss
       new {m} {lss} mk c =
           let halves : run .set % bits32 + bits32 * (run .set / bits32) ≡ run .set = omega arith in
           record {
             marked = word 0 (omega arith) ∙ mk;
-            set = ap₂ (λ (x y : ℕ). x + bits32 * y) (word 1 (omega arith)) (word 2 (omega arith)) ∙ halves ∙ h .chosen;
-            ways = subst (λ (n : ℕ). Chain image (h .tab) n lss) (sym (word 6 (omega arith) ∙ more-word)) c;
+            set = ap₂ (λ (x y : ℕ). x + bits32 * y) (word 1 (omega arith)) (word 2 (omega arith)) ∙ halves ∙ memory .chosen;
+            ways = subst (λ (n : ℕ). Chain image (memory .tab) n lss) (sym (word 6 (omega arith) ∙ more-word)) c;
           }
 
-      built : (m used : ℕ) (xs : List Node) → Trail work m (h .sheet) → run .marked ≡ entryAt m
-          → Held image b (h .tab) (pushed work run (getD work (run .task + 1) 0)) (suc (h .height)) m used (h .sheet) xs
-          → Free image b (h .tab) (pushed work run (getD work (run .task + 1) 0)) m used (run .agenda) (taking .ts) (taking .ls ∷ [])
-          → all ≡ nodeOf (map want (taking .ls) ++ taking .ts) (h .sheet) ∷ xs
-          → Holds image b (pushed work run (getD work (run .task + 1) 0)) (giving (risen run) LIST (getD work (run .task) 0)) all
+      built : (m used : ℕ) (xs : List Node) → Trail work m (memory .sheet) → run .marked ≡ entryAt m
+          → Held image book (memory .tab) (pushed work run (getD work (run .task + 1) 0)) (suc (memory .height)) m used (memory .sheet) xs
+          → Free image book (memory .tab) (pushed work run (getD work (run .task + 1) 0)) m used (run .agenda) (taking .ts) (taking .ls ∷ [])
+          → all ≡ nodeOf (map want (taking .ls) ++ taking .ts) (memory .sheet) ∷ xs
+          → Holds image book (pushed work run (getD work (run .task + 1) 0)) (giving (risen run) LIST (getD work (run .task) 0)) all
       built m used xs t mk hd fr i = record {
-        tab = h .tab;
-        height = suc (h .height);
+        tab = memory .tab;
+        height = suc (memory .height);
         marks = m;
         used = used;
-        sheet = h .sheet;
+        sheet = memory .sheet;
         due = xs;
-        ground = h .ground;
-        area = tabled-same (pushed-length work run (getD work (run .task + 1) 0)) (λ j p q. same j p (omega arith)) (h .area);
+        ground = memory .ground;
+        area = tabled-same (pushed-length work run (getD work (run .task + 1) 0)) (λ j p q. same j p (omega arith)) (memory .area);
         trail = trail-same (λ j p. same (entryAt j + layout.cellWidth) (omega arith) (omega (arith, trail-few t))) t;
         held = hd;
-        chosen = h .chosen;
+        chosen = memory .chosen;
         marked = mk;
-        top = omega (arith, h .top);
+        top = omega (arith, memory .top);
         hand =
             rw i
-            (list (subst (λ (n : ℕ). Listed image (h .tab) n (taking .ls)) (sym task-word) (taking .ahead .first)) fr (every-first (taking .fines)));
+            (list (subst (λ (n : ℕ). Listed image (memory .tab) n (taking .ls)) (sym task-word) (taking .ahead .first)) fr (every-first (taking .fines)));
       }
 
-      go : (lss : List (List Lit)) (m used : ℕ) → Chain image (h .tab) (h .tab (run .task + 1)) lss → Trail work m (h .sheet) → Held image b (h .tab) work (h .height) m used (h .sheet) (h .due)
-          → run .marked ≡ entryAt m → Free image b (h .tab) work m used (run .agenda) (taking .ts) (taking .ls ∷ lss)
-          → Every (Fine b (suc (h .height))) (byWays (taking .ts) (h .sheet) (taking .ls ∷ lss)) → all ≡ byWays (taking .ts) (h .sheet) (taking .ls ∷ lss) ++ h .due
-          → Holds image b (pushed work run (getD work (run .task + 1) 0)) (giving (risen run) LIST (getD work (run .task) 0)) all
+      go : (lss : List (List Lit)) (m used : ℕ) → Chain image (memory .tab) (memory .tab (run .task + 1)) lss → Trail work m (memory .sheet) → Held image book (memory .tab) work (memory .height) m used (memory .sheet) (memory .due)
+          → run .marked ≡ entryAt m → Free image book (memory .tab) work m used (run .agenda) (taking .ts) (taking .ls ∷ lss)
+          → Every (Fine book (suc (memory .height))) (byWays (taking .ts) (memory .sheet) (taking .ls ∷ lss)) → all ≡ byWays (taking .ts) (memory .sheet) (taking .ls ∷ lss) ++ memory .due
+          → Holds image book (pushed work run (getD work (run .task + 1) 0)) (giving (risen run) LIST (getD work (run .task) 0)) all
       go [] m used c t hd mk fr fs i = absurd (nz (more-word ∙ chain-empty c))
       go (ls ∷ lss) m used c t hd mk (older {m = n} u a) fs i =
           let few : suc n ≤ limits .atoms = trail-few t in
-          let a′ = leads-same image b (h .tab) (λ j p q. same j (omega arith) (omega arith)) a in
-          built (suc n) n (byWays (taking .ts) (h .sheet) (ls ∷ lss) ++ h .due) t mk
-          (proving (new mk c) (leads-at image b (h .tab) as-pushed a′) (every-rest fs) u
-          (held-same image b (h .tab) (λ j p q. pushed-below work run (getD work (run .task + 1) 0) j (omega arith) (omega (arith, h .top))) (λ j p q. same j (omega arith) (omega arith)) hd))
+          let a′ = leads-same image book (memory .tab) (λ j p q. same j (omega arith) (omega arith)) a in
+          built (suc n) n (byWays (taking .ts) (memory .sheet) (ls ∷ lss) ++ memory .due) t mk
+          (proving (new mk c) (leads-at image book (memory .tab) as-pushed a′) (every-rest fs) u
+          (held-same image book (memory .tab) (λ j p q. pushed-below work run (getD work (run .task + 1) 0) j (omega arith) (omega (arith, memory .top))) (λ j p q. same j (omega arith) (omega arith)) hd))
           (older (le-refl n) a′) i
       go (ls ∷ lss) m used c t hd mk (short a k) fs i =
           let few : m ≤ limits .atoms = trail-few t in
-          let under : used ≤ m = held-used image b (h .tab) hd in
-          let a′ = leads-same image b (h .tab) (λ j p q. same j (omega arith) (omega arith)) a in
-          built m m (byWays (taking .ts) (h .sheet) (ls ∷ lss) ++ h .due) t mk
-          (picking (new mk c) (free-at image b (h .tab) as-pushed (short a′ (every-rest k))) (every-rest fs)
-          (held-same image b (h .tab) (λ j p q. pushed-below work run (getD work (run .task + 1) 0) j (omega arith) (omega (arith, h .top))) (λ j p q. same j (omega arith) (omega arith)) hd))
+          let under : used ≤ m = held-used image book (memory .tab) hd in
+          let a′ = leads-same image book (memory .tab) (λ j p q. same j (omega arith) (omega arith)) a in
+          built m m (byWays (taking .ts) (memory .sheet) (ls ∷ lss) ++ memory .due) t mk
+          (picking (new mk c) (free-at image book (memory .tab) as-pushed (short a′ (every-rest k))) (every-rest fs)
+          (held-same image book (memory .tab) (λ j p q. pushed-below work run (getD work (run .task + 1) 0) j (omega arith) (omega (arith, memory .top))) (λ j p q. same j (omega arith) (omega arith)) hd))
           (short a′ (every-more (every-first k) (every-none (λ (l : List Lit). length l ≤ 1)))) i
       go (ls ∷ lss) m used c t hd mk (empty e l x) fs i =
           let few : m ≤ limits .atoms = trail-few t in
-          let under : used ≤ m = held-used image b (h .tab) hd in
-          let x′ = tail-same image b (h .tab) (λ j p q. same j (omega arith) (omega arith)) x in
-          built m m (byWays (taking .ts) (h .sheet) (ls ∷ lss) ++ h .due) t mk
-          (picking (new mk c) (free-at image b (h .tab) as-pushed (empty e l x′)) (every-rest fs)
-          (held-same image b (h .tab) (λ j p q. pushed-below work run (getD work (run .task + 1) 0) j (omega arith) (omega (arith, h .top))) (λ j p q. same j (omega arith) (omega arith)) hd))
+          let under : used ≤ m = held-used image book (memory .tab) hd in
+          let x′ = tail-same image book (memory .tab) (λ j p q. same j (omega arith) (omega arith)) x in
+          built m m (byWays (taking .ts) (memory .sheet) (ls ∷ lss) ++ memory .due) t mk
+          (picking (new mk c) (free-at image book (memory .tab) as-pushed (empty e l x′)) (every-rest fs)
+          (held-same image book (memory .tab) (λ j p q. pushed-below work run (getD work (run .task + 1) 0) j (omega arith) (omega (arith, memory .top))) (λ j p q. same j (omega arith) (omega arith)) hd))
           (empty e l x′) i
 
 module _ (work : List ℕ) (run : Run) (pre : StandingIn work run WAY) where

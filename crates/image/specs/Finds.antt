@@ -314,10 +314,10 @@ pub record AlternativeFine (atoms : ℕ) (ls : List Lit) : Type 0 where
   pub some : 1 ≤ length ls
   pub named : Every (Named atoms) ls
 
-module _ (s : List ℕ) (most : Limits) (atoms end : ℕ) where
+module _ (image : List ℕ) (most : Limits) (atoms end : ℕ) where
   -- an alternative that stands within its record, behind constraint literals of `total`
   pub record Alternative (total at : ℕ) (ls : List Lit) (next : ℕ) : Type 0 where
-    pub stands : Stands s at (ofAlternative ls)
+    pub stands : Stands image at (ofAlternative ls)
     pub isFine : AlternativeFine atoms ls
     pub fits : total + length ls ≤ most .literals
     pub behind : next ≡ at + 2 * length (ofAlternative ls)
@@ -326,12 +326,12 @@ module _ (s : List ℕ) (most : Limits) (atoms end : ℕ) where
   counts : ℕ → ℕ → ℕ → Finding
   counts total at = wrongAlternative (end - (at + 2)) (most .literals) total
 
-  pub alternative-finds : (total at : ℕ) (ls : List Lit) (next : ℕ) → alternative s most atoms end total at ≡ found ls next → Alternative total at ls next
+  pub alternative-finds : (total at : ℕ) (ls : List Lit) (next : ℕ) → alternative image most atoms end total at ≡ found ls next → Alternative total at ls next
   unfolding alternative counts
   alternative-finds total at ls next e =
-      let f = after-found (field s (counts total at) at) (λ n. times (literal s atoms) n) ls next e in
-      let countAt = field-found s (counts total at) at (f .0) (f .1) (f .2) in
-      let litsAt = finds-literals s atoms (f .0) .finds (f .1) ls next (f .3) in
+      let f = after-found (field image (counts total at) at) (λ n. times (literal image atoms) n) ls next e in
+      let countAt = field-found image (counts total at) at (f .0) (f .1) (f .2) in
+      let litsAt = finds-literals image atoms (f .0) .finds (f .1) ls next (f .3) in
       let counted = alternative-fine (end - (at + 2)) (most .literals) total (f .0) (countAt .isFine) in
       let n : length ls ≡ f .0 = litsAt .isFine .count in
       let lits : length (ofLits ls) ≡ length ls = length-lits ls in
@@ -348,7 +348,7 @@ module _ (s : List ℕ) (most : Limits) (atoms end : ℕ) where
         within = omega arith;
       }
 
-  alternative-reads : (total at : ℕ) (ls : List Lit) (next : ℕ) → Alternative total at ls next → alternative s most atoms end total at ≡ found ls next
+  alternative-reads : (total at : ℕ) (ls : List Lit) (next : ℕ) → Alternative total at ls next → alternative image most atoms end total at ≡ found ls next
   unfolding alternative counts
   alternative-reads total at ls next r =
       let lits : length (ofLits ls) ≡ length ls = length-lits ls in
@@ -356,26 +356,26 @@ module _ (s : List ℕ) (most : Limits) (atoms end : ℕ) where
       let h₁ : next ≤ end = r .within in
       let h₂ : total + length ls ≤ most .literals = r .fits in
       let b : next ≡ at + 2 * length (ofAlternative ls) = r .behind in
-      let e₁ : field s (counts total at) at ≡ found (length ls) (at + 2) =
-      fielded s (counts total at) at (length ls) (at + 2)
+      let e₁ : field image (counts total at) at ≡ found (length ls) (at + 2) =
+      fielded image (counts total at) at (length ls) (at + 2)
       (record {
         there = stands-there (r .stands);
         value = stands-value (r .stands);
         isFine = fine-alternative (end - (at + 2)) (most .literals) total (length ls) (omega arith);
         behind = refl;
       }) in
-      ap (λ (st : Step ℕ). after st (λ n. times (literal s atoms) n)) e₁
-      ∙ finds-literals s atoms (length ls) .reads (at + 2) ls next
+      ap (λ (st : Step ℕ). after st (λ n. times (literal image atoms) n)) e₁
+      ∙ finds-literals image atoms (length ls) .reads (at + 2) ls next
       (record { stands = stands-rest (r .stands); isFine = record { count = refl; named = r .isFine .named }; behind = omega arith })
 
   -- all alternatives up to the record's end
   record Alternatives (total at : ℕ) (ways : List (List Lit)) : Type 0 where
-    stands : Stands s at (flat ofAlternative ways)
+    stands : Stands image at (flat ofAlternative ways)
     isFine : Every (AlternativeFine atoms) ways
     fits : total + sum length ways ≤ most .literals
     ends : end ≡ at + 2 * length (flat ofAlternative ways)
 
-  alternatives-finds : (n total at : ℕ) (ways : List (List Lit)) (next : ℕ) → alternatives s most atoms end n total at ≡ found ways next
+  alternatives-finds : (n total at : ℕ) (ways : List (List Lit)) (next : ℕ) → alternatives image most atoms end n total at ≡ found ways next
       → at ≤ end → end ≤ at + 2 * n → total ≤ most .literals → Alternatives total at ways × (next ≡ end)
   unfolding alternatives
   alternatives-finds zero total at [] next e h k t =
@@ -385,10 +385,10 @@ module _ (s : List ℕ) (most : Limits) (atoms end : ℕ) where
   alternatives-finds (suc n) total at ways next e h k t = go (ltb at end) refl e (λ m. alternatives-finds n m)
     where
       rest : List Lit → Walk (List (List Lit))
-      rest ls at′ = after (alternatives s most atoms end n (total + length ls) at′) (λ ways′. give (ls ∷ ways′))
+      rest ls at′ = after (alternatives image most atoms end n (total + length ls) at′) (λ ways′. give (ls ∷ ways′))
 
-      go : (b : Bool) → ltb at end ≡ b → choose b (after (alternative s most atoms end total at) rest) (found [] at) ≡ found ways next
-          → ((m at′ : ℕ) (ways′ : List (List Lit)) (next′ : ℕ) → alternatives s most atoms end n m at′ ≡ found ways′ next′
+      go : (b : Bool) → ltb at end ≡ b → choose b (after (alternative image most atoms end total at) rest) (found [] at) ≡ found ways next
+          → ((m at′ : ℕ) (ways′ : List (List Lit)) (next′ : ℕ) → alternatives image most atoms end n m at′ ≡ found ways′ next′
           → at′ ≤ end → end ≤ at′ + 2 * n → m ≤ most .literals → Alternatives m at′ ways′ × (next′ ≡ end))
           → Alternatives total at ways × (next ≡ end)
       go false b q again =
@@ -398,8 +398,8 @@ module _ (s : List ℕ) (most : Limits) (atoms end : ℕ) where
           subst (λ (xs : List (List Lit)). Alternatives total at xs × (next ≡ end)) is
           (record { stands = none; isFine = every-none (AlternativeFine atoms); fits = omega arith; ends = omega arith }, omega arith)
       go true b q again =
-          let f = after-found (alternative s most atoms end total at) rest ways next q in
-          let g = after-found (alternatives s most atoms end n (total + length (f .0)) (f .1)) (λ ways′. give (f .0 ∷ ways′)) ways next (f .3) in
+          let f = after-found (alternative image most atoms end total at) rest ways next q in
+          let g = after-found (alternatives image most atoms end n (total + length (f .0)) (f .1)) (λ ways′. give (f .0 ∷ ways′)) ways next (f .3) in
           let first = alternative-finds total at (f .0) (f .1) (f .2) in
           let b₁ : f .1 ≡ at + 2 * length (ofAlternative (f .0)) = first .behind in
           let w₁ : f .1 ≤ end = first .within in
@@ -419,7 +419,7 @@ module _ (s : List ℕ) (most : Limits) (atoms end : ℕ) where
           )
 
   alternatives-reads : (n total at : ℕ) (ways : List (List Lit)) → Alternatives total at ways → length (flat ofAlternative ways) ≤ n
-      → alternatives s most atoms end n total at ≡ found ways end
+      → alternatives image most atoms end n total at ≡ found ways end
   unfolding alternatives
   alternatives-reads zero total at [] r h = let e : end ≡ at + 2 * 0 = r .ends in let q : at ≡ end = omega arith in ap (found []) q
   alternatives-reads zero total at (ls ∷ ways) r h = absurd (omega arith)
@@ -432,7 +432,7 @@ module _ (s : List ℕ) (most : Limits) (atoms end : ℕ) where
       let e : end ≡ at + 2 * length (flat ofAlternative (ls ∷ ways)) = r .ends in
       let t : total + (length ls + sum length ways) ≤ most .literals = r .fits in
       let mid : ℕ = at + 2 * length (ofAlternative ls) in
-      let e₁ : alternative s most atoms end total at ≡ found ls mid =
+      let e₁ : alternative image most atoms end total at ≡ found ls mid =
       alternative-reads total at ls mid
       (record {
         stands = stands-left (ofAlternative ls) (flat ofAlternative ways) (r .stands);
@@ -441,7 +441,7 @@ module _ (s : List ℕ) (most : Limits) (atoms end : ℕ) where
         behind = refl;
         within = omega arith;
       }) in
-      let e₂ : alternatives s most atoms end n (total + length ls) mid ≡ found ways end =
+      let e₂ : alternatives image most atoms end n (total + length ls) mid ≡ found ways end =
       alternatives-reads n (total + length ls) mid ways
       (record {
         stands = stands-right (ofAlternative ls) (r .stands);
@@ -451,7 +451,7 @@ module _ (s : List ℕ) (most : Limits) (atoms end : ℕ) where
       })
       (omega arith) in
       choose-true _ _ (lt-ltb at end (omega arith))
-      ∙ ap (λ (st : Step (List Lit)). after st (λ z at′. after (alternatives s most atoms end n (total + length z) at′) (λ zs. give (z ∷ zs)))) e₁
+      ∙ ap (λ (st : Step (List Lit)). after st (λ z at′. after (alternatives image most atoms end n (total + length z) at′) (λ zs. give (z ∷ zs)))) e₁
       ∙ ap (λ (st : Step (List (List Lit))). after st (λ zs. give (ls ∷ zs))) e₂
 
 -- ---- a constraint

@@ -119,26 +119,26 @@ alternative-tested left most sum x = rung (leb 1 x) (numbered 8 (omega arith) (o
 
 -- ---- the walk, in the decoder's order
 
-module _ (s : List ℕ) where
-  literal-walked : (atoms : ℕ) → Walked (literal s atoms)
+module _ (image : List ℕ) where
+  literal-walked : (atoms : ℕ) → Walked (literal image atoms)
   unfolding literal
-  literal-walked atoms at = follow (field-walked s (wrongLit atoms) (literal-tested atoms) at) (λ x next. onward)
+  literal-walked atoms at = follow (field-walked image (wrongLit atoms) (literal-tested atoms) at) (λ x next. onward)
 
   module _ (most : Limits) (atoms : ℕ) where
-    clause-walked : (abducibles sum : ℕ) → Walked (clause s most atoms abducibles sum)
+    clause-walked : (abducibles sum : ℕ) → Walked (clause image most atoms abducibles sum)
     unfolding clause
     clause-walked abducibles sum at =
-        follow (field-walked s _ (clause-tested (length s - (at + 2)) (most .bodies) sum) at)
-        (λ size next. follow (field-walked s _ (head-tested atoms abducibles) next)
-        (λ head next′. follow (times-walked (literal s atoms) (literal-walked atoms) (bodyOf size) next′) (λ body last. onward)))
+        follow (field-walked image _ (clause-tested (length image - (at + 2)) (most .bodies) sum) at)
+        (λ size next. follow (field-walked image _ (head-tested atoms abducibles) next)
+        (λ head next′. follow (times-walked (literal image atoms) (literal-walked atoms) (bodyOf size) next′) (λ body last. onward)))
 
-    alternative-walked : (end sum : ℕ) → Walked (alternative s most atoms end sum)
+    alternative-walked : (end sum : ℕ) → Walked (alternative image most atoms end sum)
     unfolding alternative
     alternative-walked end sum at =
-        follow (field-walked s _ (alternative-tested (end - (at + 2)) (most .literals) sum) at)
-        (λ count. times-walked (literal s atoms) (literal-walked atoms) count)
+        follow (field-walked image _ (alternative-tested (end - (at + 2)) (most .literals) sum) at)
+        (λ count. times-walked (literal image atoms) (literal-walked atoms) count)
 
-    alternatives-walked : (end n sum : ℕ) → Walked (alternatives s most atoms end n sum)
+    alternatives-walked : (end n sum : ℕ) → Walked (alternatives image most atoms end n sum)
     unfolding alternatives
     alternatives-walked end zero sum at = onward
     alternatives-walked end (suc n) sum at =
@@ -147,24 +147,24 @@ module _ (s : List ℕ) where
         (λ first next. follow (alternatives-walked end n (sum + length first) next) (λ rest last. onward)))
         onward
 
-    inside-walked : (end n sum : ℕ) → Walked (inside s most atoms end n sum)
+    inside-walked : (end n sum : ℕ) → Walked (inside image most atoms end n sum)
     unfolding inside
     inside-walked end n sum at =
-        follow (field-walked s _ (conditions-tested (end - (at + 2)) (most .literals) sum) at)
-        (λ count next. follow (times-walked (literal s atoms) (literal-walked atoms) count next)
+        follow (field-walked image _ (conditions-tested (end - (at + 2)) (most .literals) sum) at)
+        (λ count next. follow (times-walked (literal image atoms) (literal-walked atoms) count next)
         (λ conditions next′. follow (alternatives-walked end n (sum + count) next′) (λ ways last. onward)))
 
-    constraint-walked : (sum : ℕ) → Walked (constraint s most atoms sum)
+    constraint-walked : (sum : ℕ) → Walked (constraint image most atoms sum)
     unfolding constraint
     constraint-walked sum at =
-        follow (field-walked s _ (size-tested (length s - (at + 2))) at)
+        follow (field-walked image _ (size-tested (length image - (at + 2))) at)
         (λ size next. inside-walked (next + size) _ sum next)
 
-  counted-walked : {A : Type 0} (most : ℕ) (things : ℕ → Walk A) → ((n : ℕ) → Walked (things n)) → Walked (counted s most things)
+  counted-walked : {A : Type 0} (most : ℕ) (things : ℕ → Walk A) → ((n : ℕ) → Walked (things n)) → Walked (counted image most things)
   unfolding counted
-  counted-walked most things h at = follow (field-walked s (wrongCount most) (count-tested most) at) h
+  counted-walked most things h at = follow (field-walked image (wrongCount most) (count-tested most) at) h
 
-  both-walked : (most : Limits) (atoms abducibles : ℕ) → Walked (clausesAndConstraints s most atoms abducibles)
+  both-walked : (most : Limits) (atoms abducibles : ℕ) → Walked (clausesAndConstraints image most atoms abducibles)
   unfolding clausesAndConstraints
   both-walked most atoms abducibles at =
       follow (counted-walked (most .clauses) _ (λ n. running-walked _ bodyCount (clause-walked most atoms abducibles) n 0) at)
@@ -172,31 +172,31 @@ module _ (s : List ℕ) where
       (counted-walked (most .constraints) _ (λ n. running-walked _ literalCount (constraint-walked most atoms) n 0) next)
       (λ constraints last. onward))
 
-  book-walked : (most : Limits) → Walked (book s most)
+  book-walked : (most : Limits) → Walked (book image most)
   unfolding book
   book-walked most at =
-      follow (field-walked s _ (atoms-tested (most .atoms)) at)
-      (λ atoms next. follow (field-walked s _ (abducibles-tested (most .abducibles) atoms) next)
-      (λ abducibles next′. follow (counted-walked (most .goal) _ (times-walked (literal s atoms) (literal-walked atoms)) next′)
+      follow (field-walked image _ (atoms-tested (most .atoms)) at)
+      (λ atoms next. follow (field-walked image _ (abducibles-tested (most .abducibles) atoms) next)
+      (λ abducibles next′. follow (counted-walked (most .goal) _ (times-walked (literal image atoms) (literal-walked atoms)) next′)
       (λ goal next″. follow (both-walked most atoms abducibles next″) (λ both last. onward))))
 
-  ends-walked : Walked (ends s)
+  ends-walked : Walked (ends image)
   unfolding ends
-  ends-walked at = chosen (eqb at (length s)) onward (ended four)
+  ends-walked at = chosen (eqb at (length image)) onward (ended four)
 
-  whole-walked : (most : Limits) → Walked (whole s most)
+  whole-walked : (most : Limits) → Walked (whole image most)
   unfolding whole
   whole-walked most at = follow (book-walked most at) (λ b next. follow (ends-walked next) (λ _ last. onward))
 
-  front-tested : Tested (wrongFront s)
+  front-tested : Tested (wrongFront image)
   unfolding wrongFront
   front-tested =
-      rung (leb atomsAt (length s)) (numbered 1 (omega arith) (omega arith))
-      (rung (eqb (getD s versionAt 0) version) (numbered 2 (omega arith) (omega arith))
-      (rung (eqb (lengthField s) (length s - atomsAt)) (numbered 3 (omega arith) (omega arith)) passed))
+      rung (leb atomsAt (length image)) (numbered 1 (omega arith) (omega arith))
+      (rung (eqb (getD image versionAt 0) version) (numbered 2 (omega arith) (omega arith))
+      (rung (eqb (lengthField image) (length image - atomsAt)) (numbered 3 (omega arith) (omega arith)) passed))
 
   -- An image is refused by 1 to 9.
-  pub decode-number : (n : ℕ) → decode s ≡ refused n → Number n
+  pub decode-number : (n : ℕ) → decode image ≡ refused n → Number n
   unfolding decode inOrder
   decode-number n e = go front-tested (whole-walked limits atomsAt) e
     where

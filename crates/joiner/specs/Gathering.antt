@@ -80,49 +80,49 @@ unmet t l e k m = go (t k) refl
     go true i = clash (some-any t l (k, m, i)) e
     go false i = refl
 
-module _ {P : ℕ → Type 0} {kept : List ℕ} {s : ℕ} {l : List ℕ} (c : Covered P kept (s ∷ l)) where
-  covered-stays : any (λ k. inside k s) (kept ++ l) ≡ true → Covered P kept l
+module _ {P : ℕ → Type 0} {kept : List ℕ} {set : ℕ} {later : List ℕ} (covered : Covered P kept (set ∷ later)) where
+  covered-stays : any (λ k. inside k set) (kept ++ later) ≡ true → Covered P kept later
   covered-stays e = record {
-    from = c .from;
-    ahead = every-rest (c .ahead);
-    under = λ x p. let u = c .under x p in found x (u .0) (u .2) (∈-split kept (u .1));
-    apart = c .apart;
-    below = λ k m. every-rest (c .below k m);
+    from = covered .from;
+    ahead = every-rest (covered .ahead);
+    under = λ x p. let u = covered .under x p in found x (u .0) (u .2) (∈-split kept (u .1));
+    apart = covered .apart;
+    below = λ k m. every-rest (covered .below k m);
   }
     where
-      w : Some (λ k. inside k s ≡ true) (kept ++ l)
-      w = any-some (λ k. inside k s) (kept ++ l) e
+      w : Some (λ k. inside k set ≡ true) (kept ++ later)
+      w = any-some (λ k. inside k set) (kept ++ later) e
 
-      behind : (x k : ℕ) → inside k x ≡ true → (k ≡ s) ⊎ (k ∈ l) → Some (λ k. inside k x ≡ true) (kept ++ l)
+      behind : (x k : ℕ) → inside k x ≡ true → (k ≡ set) ⊎ (k ∈ later) → Some (λ k. inside k x ≡ true) (kept ++ later)
       behind x k h (inl i) =
-          (w .0, w .1, inside-transitive (w .0) s x (w .2) (subst (λ (z : ℕ). inside z x ≡ true) i h))
+          (w .0, w .1, inside-transitive (w .0) set x (w .2) (subst (λ (z : ℕ). inside z x ≡ true) i h))
       behind x k h (inr m) = (k, ∈-right kept m, h)
 
-      found : (x k : ℕ) → inside k x ≡ true → (k ∈ kept) ⊎ (k ∈ s ∷ l) → Some (λ k. inside k x ≡ true) (kept ++ l)
-      found x k h (inl m) = (k, ∈-left l m, h)
+      found : (x k : ℕ) → inside k x ≡ true → (k ∈ kept) ⊎ (k ∈ set ∷ later) → Some (λ k. inside k x ≡ true) (kept ++ later)
+      found x k h (inl m) = (k, ∈-left later m, h)
       found x k h (inr m) = behind x k h (List·Memᴰ·cases-cons m)
 
-  covered-joins : any (λ k. inside k s) (kept ++ l) ≡ false → Covered P (kept ++ s ∷ []) l
+  covered-joins : any (λ k. inside k set) (kept ++ later) ≡ false → Covered P (kept ++ set ∷ []) later
   covered-joins e = record {
-    from = every-both (c .from) (λ x m. subst P (sym (List·Memᴰ·eq-of-singleton m)) (c .ahead s here));
-    ahead = every-rest (c .ahead);
-    under = λ x p. let u = c .under x p in found x (u .0) (u .2) (∈-split kept (u .1));
-    apart = pairwise-last (Least.Separate inside) kept s (c .apart) (λ k m. (none k (∈-left l m), c .below k m s here));
+    from = every-both (covered .from) (λ x m. subst P (sym (List·Memᴰ·eq-of-singleton m)) (covered .ahead set here));
+    ahead = every-rest (covered .ahead);
+    under = λ x p. let u = covered .under x p in found x (u .0) (u .2) (∈-split kept (u .1));
+    apart = pairwise-last (Least.Separate inside) kept set (covered .apart) (λ k m. (none k (∈-left later m), covered .below k m set here));
     below =
         every-both
-        (λ k m. every-rest (c .below k m))
+        (λ k m. every-rest (covered .below k m))
         (λ k m t n. subst (λ (z : ℕ). inside t z ≡ false) (sym (List·Memᴰ·eq-of-singleton m)) (none t (∈-right kept n)));
   }
     where
-      none : Every (λ k. inside k s ≡ false) (kept ++ l)
-      none = unmet (λ k. inside k s) (kept ++ l) e
+      none : Every (λ k. inside k set ≡ false) (kept ++ later)
+      none = unmet (λ k. inside k set) (kept ++ later) e
 
-      behind : (x k : ℕ) → inside k x ≡ true → (k ≡ s) ⊎ (k ∈ l) → Some (λ k. inside k x ≡ true) ((kept ++ s ∷ []) ++ l)
-      behind x k h (inl i) = (s, ∈-left l (∈-right kept here), subst (λ (z : ℕ). inside z x ≡ true) i h)
-      behind x k h (inr m) = (k, ∈-right (kept ++ s ∷ []) m, h)
+      behind : (x k : ℕ) → inside k x ≡ true → (k ≡ set) ⊎ (k ∈ later) → Some (λ k. inside k x ≡ true) ((kept ++ set ∷ []) ++ later)
+      behind x k h (inl i) = (set, ∈-left later (∈-right kept here), subst (λ (z : ℕ). inside z x ≡ true) i h)
+      behind x k h (inr m) = (k, ∈-right (kept ++ set ∷ []) m, h)
 
-      found : (x k : ℕ) → inside k x ≡ true → (k ∈ kept) ⊎ (k ∈ s ∷ l) → Some (λ k. inside k x ≡ true) ((kept ++ s ∷ []) ++ l)
-      found x k h (inl m) = (k, ∈-left l (∈-left (s ∷ []) m), h)
+      found : (x k : ℕ) → inside k x ≡ true → (k ∈ kept) ⊎ (k ∈ set ∷ later) → Some (λ k. inside k x ≡ true) ((kept ++ set ∷ []) ++ later)
+      found x k h (inl m) = (k, ∈-left later (∈-left (set ∷ []) m), h)
       found x k h (inr m) = behind x k h (List·Memᴰ·cases-cons m)
 
 covered-keeps : {P : ℕ → Type 0} (l kept : List ℕ) → Covered P kept l → Keeps P (gathered [] kept l)

@@ -29,81 +29,81 @@ use Rattle.judging.specs.paper.Judged.{firstFalse, firstBroken, judgedBo
 pub judges-unique : (s : List ℕ) (d : ℕ) (q r : Judgement) → Judges s d q → Judges s d r → q ≡ r
 judges-unique s d q r h k = h .answer ∙ sym (k .answer)
 
-module _ (b : Book) (d : ℕ) where
+module _ (book : Book) (set : ℕ) where
   abbrev goals : List Lit
-  goals = b .goal
+  goals = book .goal
 
   abbrev constraints : List Constraint
-  constraints = b .constraints
+  constraints = book .constraints
 
   abbrev isTrue : Lit → Bool
-  isTrue = true-in (value b d)
+  isTrue = true-in (value book set)
 
   abbrev isHeld : Constraint → Bool
-  isHeld = holds (value b d)
+  isHeld = holds (value book set)
 
   -- the last two tests of the answer
   abbrev afterGoal : Judgement
-  afterGoal = choose (ltb (firstBroken b d) (length constraints)) (BrokenConstraint (firstBroken b d)) Explains
+  afterGoal = choose (ltb (firstBroken book set) (length constraints)) (BrokenConstraint (firstBroken book set)) Explains
 
   abbrev afterSet : Judgement
-  afterSet = choose (ltb (firstFalse b d) (length goals)) (FalseGoal (firstFalse b d)) afterGoal
+  afterSet = choose (ltb (firstFalse book set) (length goals)) (FalseGoal (firstFalse book set)) afterGoal
 
   -- the answer says what is so
-  pub judged-so : Means b d (judgedBook b d)
+  pub judged-so : Means book set (judgedBook book set)
   unfolding judgedBook
-  judged-so = set (leb (2 ^ b .abducibles) d) refl
+  judged-so = of-set (leb (2 ^ book .abducibles) set) refl
     where
-      rule : Members b d → all-true (value b d) goals ≡ true → (t : Bool) → ltb (firstBroken b d) (length constraints) ≡ t
-          → Means b d (choose t (BrokenConstraint (firstBroken b d)) Explains)
-      rule m g true e = (m, g, failing-first isHeld constraints (ltb-true (firstBroken b d) (length constraints) e))
+      rule : Members book set → all-true (value book set) goals ≡ true → (t : Bool) → ltb (firstBroken book set) (length constraints) ≡ t
+          → Means book set (choose t (BrokenConstraint (firstBroken book set)) Explains)
+      rule m g true e = (m, g, failing-first isHeld constraints (ltb-true (firstBroken book set) (length constraints) e))
       rule m g false e =
-          (m, both (all-true (value b d) goals) (all isHeld constraints) g (failing-all isHeld constraints (ltb-false (firstBroken b d) (length constraints) e)))
+          (m, both (all-true (value book set) goals) (all isHeld constraints) g (failing-all isHeld constraints (ltb-false (firstBroken book set) (length constraints) e)))
 
-      goal : Members b d → (t : Bool) → ltb (firstFalse b d) (length goals) ≡ t → Means b d (choose t (FalseGoal (firstFalse b d)) afterGoal)
-      goal m true e = (m, failing-first isTrue goals (ltb-true (firstFalse b d) (length goals) e))
-      goal m false e = rule m (failing-all isTrue goals (ltb-false (firstFalse b d) (length goals) e)) (ltb (firstBroken b d) (length constraints)) refl
+      goal : Members book set → (t : Bool) → ltb (firstFalse book set) (length goals) ≡ t → Means book set (choose t (FalseGoal (firstFalse book set)) afterGoal)
+      goal m true e = (m, failing-first isTrue goals (ltb-true (firstFalse book set) (length goals) e))
+      goal m false e = rule m (failing-all isTrue goals (ltb-false (firstFalse book set) (length goals) e)) (ltb (firstBroken book set) (length constraints)) refl
 
-      set : (t : Bool) → leb (2 ^ b .abducibles) d ≡ t → Means b d (choose t (Refused 23) afterSet)
-      set true e = (refl, λ m. not-le-of-lt (has-within d (b .abducibles) m) (leb-true (2 ^ b .abducibles) d e))
-      set false e = goal (within-has d (b .abducibles) (leb-false (2 ^ b .abducibles) d e)) (ltb (firstFalse b d) (length goals)) refl
+      of-set : (t : Bool) → leb (2 ^ book .abducibles) set ≡ t → Means book set (choose t (Refused 23) afterSet)
+      of-set true e = (refl, λ m. not-le-of-lt (has-within set (book .abducibles) m) (leb-true (2 ^ book .abducibles) set e))
+      of-set false e = goal (within-has set (book .abducibles) (leb-false (2 ^ book .abducibles) set e)) (ltb (firstFalse book set) (length goals)) refl
 
-  within : Members b d → leb (2 ^ b .abducibles) d ≡ false
-  within m = lt-leb (2 ^ b .abducibles) d (has-within d (b .abducibles) m)
+  within : Members book set → leb (2 ^ book .abducibles) set ≡ false
+  within m = lt-leb (2 ^ book .abducibles) set (has-within set (book .abducibles) m)
 
-  goal-true : all-true (value b d) goals ≡ true → ltb (firstFalse b d) (length goals) ≡ false
-  goal-true e = le-ltb (firstFalse b d) (length goals) (all-failing isTrue goals e)
+  goal-true : all-true (value book set) goals ≡ true → ltb (firstFalse book set) (length goals) ≡ false
+  goal-true e = le-ltb (firstFalse book set) (length goals) (all-failing isTrue goals e)
 
   -- an answer that says what is so is the answer
-  pub so-judged : (r : Judgement) → Means b d r → r ≡ judgedBook b d
+  pub so-judged : (r : Judgement) → Means book set r → r ≡ judgedBook book set
   unfolding judgedBook
   so-judged Explains h =
-      let g : all-true (value b d) goals ≡ true = both-left (all-true (value b d) goals) (all isHeld constraints) (h .1) in
-      let k : all isHeld constraints ≡ true = both-right (all-true (value b d) goals) (all isHeld constraints) (h .1) in
+      let g : all-true (value book set) goals ≡ true = both-left (all-true (value book set) goals) (all isHeld constraints) (h .1) in
+      let k : all isHeld constraints ≡ true = both-right (all-true (value book set) goals) (all isHeld constraints) (h .1) in
       sym
       (choose-false (Refused 23) afterSet (within (h .0))
-      ∙ choose-false (FalseGoal (firstFalse b d)) afterGoal (goal-true g)
-      ∙ choose-false (BrokenConstraint (firstBroken b d)) Explains (le-ltb (firstBroken b d) (length constraints) (all-failing isHeld constraints k)))
+      ∙ choose-false (FalseGoal (firstFalse book set)) afterGoal (goal-true g)
+      ∙ choose-false (BrokenConstraint (firstBroken book set)) Explains (le-ltb (firstBroken book set) (length constraints) (all-failing isHeld constraints k)))
   so-judged (FalseGoal i) h =
       let f = first-failing isTrue goals i (h .1) in
       ap FalseGoal (sym (f .0))
       ∙ sym
       (choose-false (Refused 23) afterSet (within (h .0))
-      ∙ choose-true (FalseGoal (firstFalse b d)) afterGoal (lt-ltb (firstFalse b d) (length goals) (omega (arith, f .0, f .1))))
+      ∙ choose-true (FalseGoal (firstFalse book set)) afterGoal (lt-ltb (firstFalse book set) (length goals) (omega (arith, f .0, f .1))))
   so-judged (BrokenConstraint i) h =
       let f = first-failing isHeld constraints i (h .2) in
       ap BrokenConstraint (sym (f .0))
       ∙ sym
       (choose-false (Refused 23) afterSet (within (h .0))
-      ∙ choose-false (FalseGoal (firstFalse b d)) afterGoal (goal-true (h .1))
-      ∙ choose-true (BrokenConstraint (firstBroken b d)) Explains (lt-ltb (firstBroken b d) (length constraints) (omega (arith, f .0, f .1))))
+      ∙ choose-false (FalseGoal (firstFalse book set)) afterGoal (goal-true (h .1))
+      ∙ choose-true (BrokenConstraint (firstBroken book set)) Explains (lt-ltb (firstBroken book set) (length constraints) (omega (arith, f .0, f .1))))
   so-judged (Refused n) h =
       ap Refused (h .0)
       ∙ sym
       (choose-true (Refused 23) afterSet
       (⊎-elim (λ e. e)
-      (λ (e : leb (2 ^ b .abducibles) d ≡ false). absurd (h .1 (within-has d (b .abducibles) (leb-false (2 ^ b .abducibles) d e))))
-      (decide (leb (2 ^ b .abducibles) d))))
+      (λ (e : leb (2 ^ book .abducibles) set ≡ false). absurd (h .1 (within-has set (book .abducibles) (leb-false (2 ^ book .abducibles) set e))))
+      (decide (leb (2 ^ book .abducibles) set))))
 
 -- An answer is the judge's exactly if it says what is so.
 pub judged-means : (s : List ℕ) (d : ℕ) (r : Judgement) → (r ≡ judged s d) ↔ Said s d r

@@ -57,47 +57,47 @@ explained image budget sets work r sets′ work′ h k n i = go (searchEnd (h .b
         }
 
 -- the results of the search's three endings, from what the code leaves
-module _ (image : List ℕ) (budget : ℕ) (old work : List ℕ) (kept : List ℕ) (r : Run) (b : Book) (e : decode image ≡ accepted b) (same : length kept ≡ length old) where
-  outcome-at : (o : Outcome) → run-from b (length kept) budget (root b) ≡ o → searchEnd b (length old) budget ≡ sent o
-  outcome-at o p = ap sent (ap (λ (m : ℕ). run-from b m budget (root b)) (sym same) ∙ p)
+module _ (image : List ℕ) (budget : ℕ) (old work : List ℕ) (kept : List ℕ) (run : Run) (book : Book) (is-book : decode image ≡ accepted book) (same : length kept ≡ length old) where
+  outcome-at : (o : Outcome) → run-from book (length kept) budget (root book) ≡ o → searchEnd book (length old) budget ≡ sent o
+  outcome-at o p = ap sent (ap (λ (m : ℕ). run-from book m budget (root book)) (sym same) ∙ p)
 
-  pub searched-all : (sets′ work′ : List ℕ) → r .count ≤ length kept → run-from b (length kept) budget (root b) ≡ finished (take (r .count) kept) (r .nodes)
-      → sets′ ≡ sort (take (r .count) kept) ++ zeros (length kept - r .count) → work′ ≡ zeros layout.end ++ drop layout.end work
-      → Searched image budget old work (Listed (r .count) (r .nodes)) sets′ work′
+  pub searched-all : (sets′ work′ : List ℕ) → run .count ≤ length kept → run-from book (length kept) budget (root book) ≡ finished (take (run .count) kept) (run .nodes)
+      → sets′ ≡ sort (take (run .count) kept) ++ zeros (length kept - run .count) → work′ ≡ zeros layout.end ++ drop layout.end work
+      → Searched image budget old work (Listed (run .count) (run .nodes)) sets′ work′
   searched-all sets′ work′ c p t u =
-      let o : searchEnd b (length old) budget ≡ finished (sort (take (r .count) kept)) (r .nodes) = outcome-at (finished (take (r .count) kept) (r .nodes)) p in
-      let many : length (sort (take (r .count) kept)) ≡ r .count = sort-length (take (r .count) kept) ∙ length-take-le (r .count) kept c in
+      let o : searchEnd book (length old) budget ≡ finished (sort (take (run .count) kept)) (run .nodes) = outcome-at (finished (take (run .count) kept) (run .nodes)) p in
+      let many : length (sort (take (run .count) kept)) ≡ run .count = sort-length (take (run .count) kept) ∙ length-take-le (run .count) kept c in
       record {
-        b = b;
-        book = e;
-        answer = ap (λ (k : ℕ). Listed k (r .nodes)) (sym many) ∙ ap (λ (x : Outcome). answerOf (searched x)) (sym o);
+        b = book;
+        book = is-book;
+        answer = ap (λ (k : ℕ). Listed k (run .nodes)) (sym many) ∙ ap (λ (x : Outcome). answerOf (searched x)) (sym o);
         sets =
-            t ∙ ap₂ (λ (m k : ℕ). sort (take (r .count) kept) ++ zeros (m - k)) same (sym many)
+            t ∙ ap₂ (λ (m k : ℕ). sort (take (run .count) kept) ++ zeros (m - k)) same (sym many)
             ∙ ap (λ (x : Outcome). setsOf (searched x) old) (sym o);
         work = u;
       }
 
   -- a search that ends without a list
-  none-listed : (o : Outcome) {a : Listing} {sets′ work′ : List ℕ} → run-from b (length kept) budget (root b) ≡ o → a ≡ answerOf (searched (sent o))
+  none-listed : (o : Outcome) {a : Listing} {sets′ work′ : List ℕ} → run-from book (length kept) budget (root book) ≡ o → a ≡ answerOf (searched (sent o))
       → zeros (length old) ≡ setsOf (searched (sent o)) old → sets′ ≡ zeros (length kept) → work′ ≡ zeros layout.end ++ drop layout.end work
       → Searched image budget old work a sets′ work′
   none-listed o p a z t u =
-      let q : searchEnd b (length old) budget ≡ sent o = outcome-at o p in
+      let q : searchEnd book (length old) budget ≡ sent o = outcome-at o p in
       record {
-        b = b;
-        book = e;
+        b = book;
+        book = is-book;
         answer = a ∙ ap (λ (x : Outcome). answerOf (searched x)) (sym q);
         sets = t ∙ ap zeros same ∙ z ∙ ap (λ (x : Outcome). setsOf (searched x) old) (sym q);
         work = u;
       }
 
-  pub searched-short : (sets′ work′ : List ℕ) → run-from b (length kept) budget (root b) ≡ used-up (r .nodes) → sets′ ≡ zeros (length kept)
-      → work′ ≡ zeros layout.end ++ drop layout.end work → Searched image budget old work (Refused 30 (r .nodes)) sets′ work′
-  searched-short sets′ work′ p t u = none-listed (used-up (r .nodes)) p refl refl t u
+  pub searched-short : (sets′ work′ : List ℕ) → run-from book (length kept) budget (root book) ≡ used-up (run .nodes) → sets′ ≡ zeros (length kept)
+      → work′ ≡ zeros layout.end ++ drop layout.end work → Searched image budget old work (Refused 30 (run .nodes)) sets′ work′
+  searched-short sets′ work′ p t u = none-listed (used-up (run .nodes)) p refl refl t u
 
-  pub searched-full : (sets′ work′ : List ℕ) → run-from b (length kept) budget (root b) ≡ no-room (r .nodes) → sets′ ≡ zeros (length kept)
-      → work′ ≡ zeros layout.end ++ drop layout.end work → Searched image budget old work (Refused 31 (r .nodes)) sets′ work′
-  searched-full sets′ work′ p t u = none-listed (no-room (r .nodes)) p refl refl t u
+  pub searched-full : (sets′ work′ : List ℕ) → run-from book (length kept) budget (root book) ≡ no-room (run .nodes) → sets′ ≡ zeros (length kept)
+      → work′ ≡ zeros layout.end ++ drop layout.end work → Searched image budget old work (Refused 31 (run .nodes)) sets′ work′
+  searched-full sets′ work′ p t u = none-listed (no-room (run .nodes)) p refl refl t u
 
 -- ---- the ways to a result
 

@@ -53,50 +53,50 @@ few-nodes image budget kept r h = go (h .ending)
     go (out-of-budget i o) = at-most _ o
     go (out-of-room i o) = at-most _ o
 
-module _ (image : List ℕ) (budget : ℕ) (old work kept : List ℕ) (r : Run) (h : Stopped image budget kept r) (same : length kept ≡ length old) where
+module _ (image : List ℕ) (budget : ℕ) (old work kept : List ℕ) (run : Run) (stopped : Stopped image budget kept run) (same : length kept ≡ length old) where
   record Visited-all : Type 0 where
-    few : r .count ≤ length kept
-    end : run-from (h .b) (length kept) budget (root (h .b)) ≡ finished (take (r .count) kept) (r .nodes)
+    few : run .count ≤ length kept
+    end : run-from (stopped .b) (length kept) budget (root (stopped .b)) ≡ finished (take (run .count) kept) (run .nodes)
 
-  visited-all : r .state ≡ OVER → Visited-all
-  visited-all e = go (h .ending)
+  visited-all : run .state ≡ OVER → Visited-all
+  visited-all e = go (stopped .ending)
     where
-      go : Ending (h .b) budget kept r → Visited-all
+      go : Ending (stopped .b) budget kept run → Visited-all
       go (all-visited i c o) = record { few = c; end = o }
       go (out-of-budget i o) = absurd (omega (arith, i, e))
       go (out-of-room i o) = absurd (omega (arith, i, e))
 
-  pub count-fits : r .state ≡ OVER → r .count ≤ length kept
+  pub count-fits : run .state ≡ OVER → run .count ≤ length kept
   count-fits e = visited-all e .few
 
-  pub ends-listed : (sets₁ sets₂ work₂ : List ℕ) → r .state ≡ OVER → sets₁ ≡ sort (take (r .count) kept) ++ drop (r .count) kept
-      → sets₂ ≡ take (r .count) sets₁ ++ zeros (length sets₁ - r .count) → work₂ ≡ zeros layout.end ++ drop layout.end work
-      → Searched image budget old work (Listed (r .count) (r .nodes)) sets₂ work₂
+  pub ends-listed : (sets₁ sets₂ work₂ : List ℕ) → run .state ≡ OVER → sets₁ ≡ sort (take (run .count) kept) ++ drop (run .count) kept
+      → sets₂ ≡ take (run .count) sets₁ ++ zeros (length sets₁ - run .count) → work₂ ≡ zeros layout.end ++ drop layout.end work
+      → Searched image budget old work (Listed (run .count) (run .nodes)) sets₂ work₂
   ends-listed sets₁ sets₂ work₂ e p q u =
       let a = visited-all e in
-      let many : length (sort (take (r .count) kept)) ≡ r .count = sort-length (take (r .count) kept) ∙ length-take-le (r .count) kept (a .few) in
-      let size : length sets₁ ≡ length kept = ap length p ∙ length-append (sort (take (r .count) kept)) (drop (r .count) kept) ∙ omega (arith, many, length-drop (r .count) kept, a .few) in
-      let front : take (r .count) sets₁ ≡ sort (take (r .count) kept) = ap (take (r .count)) p ∙ take-at (sort (take (r .count) kept)) (drop (r .count) kept) (r .count) many in
-      searched-all image budget old work kept r (h .b) (h .book) same sets₂ work₂ (a .few) (a .end)
-      (q ∙ ap₂ (λ (l : List ℕ) (n : ℕ). l ++ zeros (n - r .count)) front size) u
+      let many : length (sort (take (run .count) kept)) ≡ run .count = sort-length (take (run .count) kept) ∙ length-take-le (run .count) kept (a .few) in
+      let size : length sets₁ ≡ length kept = ap length p ∙ length-append (sort (take (run .count) kept)) (drop (run .count) kept) ∙ omega (arith, many, length-drop (run .count) kept, a .few) in
+      let front : take (run .count) sets₁ ≡ sort (take (run .count) kept) = ap (take (run .count)) p ∙ take-at (sort (take (run .count) kept)) (drop (run .count) kept) (run .count) many in
+      searched-all image budget old work kept run (stopped .b) (stopped .book) same sets₂ work₂ (a .few) (a .end)
+      (q ∙ ap₂ (λ (l : List ℕ) (n : ℕ). l ++ zeros (n - run .count)) front size) u
 
   zeroed : (sets₂ : List ℕ) → sets₂ ≡ take 0 kept ++ zeros (length kept - 0) → sets₂ ≡ zeros (length kept)
   zeroed sets₂ p = p ∙ ap zeros (sub-zero (length kept))
 
-  pub ends-short : (sets₂ work₂ : List ℕ) → r .state ≡ SPENT → sets₂ ≡ take 0 kept ++ zeros (length kept - 0) → work₂ ≡ zeros layout.end ++ drop layout.end work
-      → Searched image budget old work (Refused 30 (r .nodes)) sets₂ work₂
-  ends-short sets₂ work₂ e p u = go (h .ending)
+  pub ends-short : (sets₂ work₂ : List ℕ) → run .state ≡ SPENT → sets₂ ≡ take 0 kept ++ zeros (length kept - 0) → work₂ ≡ zeros layout.end ++ drop layout.end work
+      → Searched image budget old work (Refused 30 (run .nodes)) sets₂ work₂
+  ends-short sets₂ work₂ e p u = go (stopped .ending)
     where
-      go : Ending (h .b) budget kept r → Searched image budget old work (Refused 30 (r .nodes)) sets₂ work₂
+      go : Ending (stopped .b) budget kept run → Searched image budget old work (Refused 30 (run .nodes)) sets₂ work₂
       go (all-visited i c o) = absurd (omega (arith, i, e))
-      go (out-of-budget i o) = searched-short image budget old work kept r (h .b) (h .book) same sets₂ work₂ o (zeroed sets₂ p) u
+      go (out-of-budget i o) = searched-short image budget old work kept run (stopped .b) (stopped .book) same sets₂ work₂ o (zeroed sets₂ p) u
       go (out-of-room i o) = absurd (omega (arith, i, e))
 
-  pub ends-full : (sets₂ work₂ : List ℕ) → (r .state ≡ OVER → ⊥) → (r .state ≡ SPENT → ⊥) → sets₂ ≡ take 0 kept ++ zeros (length kept - 0) → work₂ ≡ zeros layout.end ++ drop layout.end work
-      → Searched image budget old work (Refused 31 (r .nodes)) sets₂ work₂
-  ends-full sets₂ work₂ d e p u = go (h .ending)
+  pub ends-full : (sets₂ work₂ : List ℕ) → (run .state ≡ OVER → ⊥) → (run .state ≡ SPENT → ⊥) → sets₂ ≡ take 0 kept ++ zeros (length kept - 0) → work₂ ≡ zeros layout.end ++ drop layout.end work
+      → Searched image budget old work (Refused 31 (run .nodes)) sets₂ work₂
+  ends-full sets₂ work₂ d e p u = go (stopped .ending)
     where
-      go : Ending (h .b) budget kept r → Searched image budget old work (Refused 31 (r .nodes)) sets₂ work₂
+      go : Ending (stopped .b) budget kept run → Searched image budget old work (Refused 31 (run .nodes)) sets₂ work₂
       go (all-visited i c o) = absurd (d i)
       go (out-of-budget i o) = absurd (e i)
-      go (out-of-room i o) = searched-full image budget old work kept r (h .b) (h .book) same sets₂ work₂ o (zeroed sets₂ p) u
+      go (out-of-room i o) = searched-full image budget old work kept run (stopped .b) (stopped .book) same sets₂ work₂ o (zeroed sets₂ p) u

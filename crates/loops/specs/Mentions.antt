@@ -173,24 +173,24 @@ unfolding waiting
 waiting-few done p [] = omega arith
 waiting-few done p (m ∷ ms) = omega (arith, bit-most (eqb (m .head) p && not (done (m .atom))), waiting-few done p ms)
 
-module _ {heads earlier latest waits : List ℕ} {n : ℕ} {ms : List Mention} (t : Tallied heads earlier latest waits n ms) where
-  pub tallied-few : (p : ℕ) → p < limits .atoms → getD waits p 0 ≤ n
-  tallied-few p l = let c : n ≡ length ms = t .count in omega (arith, t .counts p l, waiting-few nothing p ms)
+module _ {heads earlier latest waits : List ℕ} {count : ℕ} {ms : List Mention} (tallied : Tallied heads earlier latest waits count ms) where
+  pub tallied-few : (p : ℕ) → p < limits .atoms → getD waits p 0 ≤ count
+  tallied-few p l = let c : count ≡ length ms = tallied .count in omega (arith, tallied .counts p l, waiting-few nothing p ms)
 
   -- one mention more
-  pub tallied-more : (h q : ℕ) → h < limits .atoms → q < limits .atoms → n < limits .bodies
-      → Tallied (set heads (n + 1) h) (set earlier (n + 1) (getD latest q 0)) (set latest q (n + 1)) (set waits h (getD waits h 0 + 1)) (n + 1) (record { head = h; atom = q } ∷ ms)
+  pub tallied-more : (h q : ℕ) → h < limits .atoms → q < limits .atoms → count < limits .bodies
+      → Tallied (set heads (count + 1) h) (set earlier (count + 1) (getD latest q 0)) (set latest q (count + 1)) (set waits h (getD waits h 0 + 1)) (count + 1) (record { head = h; atom = q } ∷ ms)
   unfolding Chain mentioning waiting
   tallied-more h q hl ql room =
-      let l = t .long in
+      let l = tallied .long in
       record {
         long = (
-          length-set heads (n + 1) h ∙ l .0,
-          length-set earlier (n + 1) (getD latest q 0) ∙ l .1,
-          length-set latest q (n + 1) ∙ l .2,
+          length-set heads (count + 1) h ∙ l .0,
+          length-set earlier (count + 1) (getD latest q 0) ∙ l .1,
+          length-set latest q (count + 1) ∙ l .2,
           length-set waits h (getD waits h 0 + 1) ∙ l .3,
         );
-        count = let c : n ≡ length ms = t .count in omega arith;
+        count = let c : count ≡ length ms = tallied .count in omega arith;
         few = omega arith;
         within = λ r rl. within r rl (decide (eqb r q));
         chains = λ r rl. chains r rl (decide (eqb r q));
@@ -198,38 +198,38 @@ module _ {heads earlier latest waits : List ℕ} {n : ℕ} {ms : List Mention} (
       }
     where
       heads′ : List ℕ
-      heads′ = set heads (n + 1) h
+      heads′ = set heads (count + 1) h
 
       earlier′ : List ℕ
-      earlier′ = set earlier (n + 1) (getD latest q 0)
+      earlier′ = set earlier (count + 1) (getD latest q 0)
 
       latest′ : List ℕ
-      latest′ = set latest q (n + 1)
+      latest′ = set latest q (count + 1)
 
       waits′ : List ℕ
       waits′ = set waits h (getD waits h 0 + 1)
 
       kept : (r : ℕ) → eqb r q ≡ false → getD latest′ r 0 ≡ getD latest r 0
-      kept r e = getD-set-other latest q r (n + 1) 0 (λ (i : r ≡ q). eqb-false r q e i)
+      kept r e = getD-set-other latest q r (count + 1) 0 (λ (i : r ≡ q). eqb-false r q e i)
 
-      new : getD latest′ q 0 ≡ n + 1
-      new = getD-set-same latest q (n + 1) 0 (let l : length latest ≡ limits .atoms = t .long .2 in omega arith)
+      new : getD latest′ q 0 ≡ count + 1
+      new = getD-set-same latest q (count + 1) 0 (let l : length latest ≡ limits .atoms = tallied .long .2 in omega arith)
 
-      within : (r : ℕ) → r < limits .atoms → (eqb r q ≡ true) ⊎ (eqb r q ≡ false) → getD latest′ r 0 ≤ n + 1
-      within r rl (inl e) = subst (λ (x : ℕ). getD latest′ x 0 ≤ n + 1) (sym (eqb-true r q e)) (omega (arith, new))
-      within r rl (inr e) = omega (arith, kept r e, t .within r rl)
+      within : (r : ℕ) → r < limits .atoms → (eqb r q ≡ true) ⊎ (eqb r q ≡ false) → getD latest′ r 0 ≤ count + 1
+      within r rl (inl e) = subst (λ (x : ℕ). getD latest′ x 0 ≤ count + 1) (sym (eqb-true r q e)) (omega (arith, new))
+      within r rl (inr e) = omega (arith, kept r e, tallied .within r rl)
 
       chain : (r : ℕ) → r < limits .atoms → Chain heads′ earlier′ (getD latest r 0) (mentioning r ms)
-      chain r rl = chain-keeps heads earlier (n + 1) h (getD latest q 0) (getD latest r 0) (mentioning r ms) (omega (arith, t .within r rl)) (t .chains r rl)
+      chain r rl = chain-keeps heads earlier (count + 1) h (getD latest q 0) (getD latest r 0) (mentioning r ms) (omega (arith, tallied .within r rl)) (tallied .chains r rl)
 
-      longer : Chain heads′ earlier′ (n + 1) (h ∷ mentioning q ms)
+      longer : Chain heads′ earlier′ (count + 1) (h ∷ mentioning q ms)
       longer =
-          let long = t .long in
+          let long = tallied .long in
           let hs : length heads ≡ mentionPlaces = long .0 in
           let es : length earlier ≡ mentionPlaces = long .1 in
-          let back : getD earlier′ (n + 1) 0 ≡ getD latest q 0 = getD-set-same earlier (n + 1) (getD latest q 0) 0 (omega arith) in (
-            getD-set-same heads (n + 1) h 0 (omega arith),
-            omega (arith, back, t .within q ql),
+          let back : getD earlier′ (count + 1) 0 ≡ getD latest q 0 = getD-set-same earlier (count + 1) (getD latest q 0) 0 (omega arith) in (
+            getD-set-same heads (count + 1) h 0 (omega arith),
+            omega (arith, back, tallied .within q ql),
             subst (λ (j : ℕ). Chain heads′ earlier′ j (mentioning q ms)) (sym back) (chain q ql),
           )
 
@@ -243,11 +243,11 @@ module _ {heads earlier latest waits : List ℕ} {n : ℕ} {ms : List Mention} (
 
       counts : (p : ℕ) → p < limits .atoms → (eqb h p ≡ true) ⊎ (eqb h p ≡ false) → getD waits′ p 0 ≡ bit (eqb h p && true) + waiting nothing p ms
       counts p pl (inl e) =
-          let l : length waits ≡ limits .atoms = t .long .3 in
+          let l : length waits ≡ limits .atoms = tallied .long .3 in
           let one : bit (eqb h p && true) ≡ 1 = ap (λ (b : Bool). bit (b && true)) e in
           let more : getD waits′ h 0 ≡ getD waits h 0 + 1 = getD-set-same waits h (getD waits h 0 + 1) 0 (omega arith) in
           let here : getD waits′ p 0 ≡ getD waits p 0 + 1 = subst (λ (x : ℕ). getD waits′ x 0 ≡ getD waits x 0 + 1) (eqb-true h p e) more in
-          omega (arith, t .counts p pl)
+          omega (arith, tallied .counts p pl)
       counts p pl (inr e) =
           let none : bit (eqb h p && true) ≡ 0 = ap (λ (b : Bool). bit (b && true)) e in
-          omega (arith, t .counts p pl, getD-set-other waits h p (getD waits h 0 + 1) 0 (λ (i : p ≡ h). eqb-false h p e (sym i)))
+          omega (arith, tallied .counts p pl, getD-set-other waits h p (getD waits h 0 + 1) 0 (λ (i : p ≡ h). eqb-false h p e (sym i)))

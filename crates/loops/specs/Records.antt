@@ -108,33 +108,33 @@ recorded-rest s at n room h k = go (h .clauses) (h .stands) (h .count) (h .small
         }
 
 -- the first clause, as the part of the image from its head to its record's end
-module _ (s : List ℕ) (at room end : ℕ) (h : Leads s at room) (e : end ≡ behindRecord s at) where
+module _ (image : List ℕ) (at room end : ℕ) (leads : Leads image at room) (is-end : end ≡ behindRecord image at) where
   abbrev part : List ℕ
-  part = take (end - (at + 2)) (drop (at + 2) s)
+  part = take (end - (at + 2)) (drop (at + 2) image)
 
-  pub part-long : length part ≡ fieldAt s at
+  pub part-long : length part ≡ fieldAt image at
   part-long =
-      let some : 2 ≤ fieldAt s at = h .some in
-      let ends : at + 2 + fieldAt s at ≤ length s = h .ends in
-      let long : length part ≡ min (end - (at + 2)) (length (drop (at + 2) s)) = length-take (end - (at + 2)) (drop (at + 2) s) in
-      let left : length (drop (at + 2) s) ≡ length s - (at + 2) = length-drop (at + 2) s in
+      let some : 2 ≤ fieldAt image at = leads .some in
+      let ends : at + 2 + fieldAt image at ≤ length image = leads .ends in
+      let long : length part ≡ min (end - (at + 2)) (length (drop (at + 2) image)) = length-take (end - (at + 2)) (drop (at + 2) image) in
+      let left : length (drop (at + 2) image) ≡ length image - (at + 2) = length-drop (at + 2) image in
       omega arith
 
-  pub body-count : (length part - 2) / 2 ≡ bodyOf (fieldAt s at)
-  body-count = let some : 2 ≤ fieldAt s at = h .some in omega (arith, part-long)
+  pub body-count : (length part - 2) / 2 ≡ bodyOf (fieldAt image at)
+  body-count = let some : 2 ≤ fieldAt image at = leads .some in omega (arith, part-long)
 
-  pub clause-part : clauseIn part ≡ clauseAt s at
+  pub clause-part : clauseIn part ≡ clauseAt image at
   unfolding clauseIn clauseAt
   clause-part =
-      let some : 2 ≤ fieldAt s at = h .some in
+      let some : 2 ≤ fieldAt image at = leads .some in
       let two : at + 2 + 0 ≡ at + 2 = omega arith in
       let four : at + 2 + 2 ≡ at + 4 = omega arith in
       λ i. record {
-        head = (part-field s (at + 2) (end - (at + 2)) 0 (omega arith) ∙ ap (fieldAt s) two) i;
+        head = (part-field image (at + 2) (end - (at + 2)) 0 (omega arith) ∙ ap (fieldAt image) two) i;
         body =
             (ap (litsAt part 2) body-count
-            ∙ part-lits s (at + 2) (end - (at + 2)) 2 (bodyOf (fieldAt s at)) (omega arith)
-            ∙ ap (λ (j : ℕ). litsAt s j (bodyOf (fieldAt s at))) four)
+            ∙ part-lits image (at + 2) (end - (at + 2)) 2 (bodyOf (fieldAt image at)) (omega arith)
+            ∙ ap (λ (j : ℕ). litsAt image j (bodyOf (fieldAt image at))) four)
             i;
       }
 
@@ -162,27 +162,27 @@ found-ready s b next e =
     let w = whole-found s limits atomsAt b next e in
     record { shown = words-shown s b (w .0 .stands) (sym (w .1) ∙ w .0 .behind); within = w .0 .isFine }
 
-module _ (s : List ℕ) (b : Book) (r : Ready s b) (at count : ℕ) (e : at ≡ clauseCountAt s) (n : count ≡ fieldAt s at) where
-  pub ready-count : count ≡ length (b .clauses)
-  ready-count = n ∙ ap (fieldAt s) e ∙ r .shown .clauses
+module _ (image : List ℕ) (book : Book) (ready : Ready image book) (at count : ℕ) (is-at : at ≡ clauseCountAt image) (is-count : count ≡ fieldAt image at) where
+  pub ready-count : count ≡ length (book .clauses)
+  ready-count = is-count ∙ ap (fieldAt image) is-at ∙ ready .shown .clauses
 
-  pub ready-recorded : Recorded s (at + 2) count (limits .bodies)
+  pub ready-recorded : Recorded image (at + 2) count (limits .bodies)
   ready-recorded =
-      let small : b .atoms ≤ limits .atoms = r .within .atoms in
+      let small : book .atoms ≤ limits .atoms = ready .within .atoms in
       record {
-        clauses = b .clauses;
-        stands = stands-at (ap (λ (k : ℕ). k + 2) (sym e)) (r .shown .allClauses);
+        clauses = book .clauses;
+        stands = stands-at (ap (λ (k : ℕ). k + 2) (sym is-at)) (ready .shown .allClauses);
         count = sym ready-count;
         small =
             λ c m.
-            let f = r .within .clausesFine c m in
+            let f = ready .within .clausesFine c m in
             record {
-              head = let h : c .head < b .atoms = f .known in omega arith;
-              body = λ l k. let h : l .atom < b .atoms = f .named l k in omega arith;
+              head = let h : c .head < book .atoms = f .known in omega arith;
+              body = λ l k. let h : l .atom < book .atoms = f .named l k in omega arith;
             };
-        fits = r .within .bodies;
+        fits = ready .within .bodies;
       }
 
-  pub ready-clauses : clausesAt s (at + 2) count ≡ b .clauses
+  pub ready-clauses : clausesAt image (at + 2) count ≡ book .clauses
   unfolding ready-recorded
-  ready-clauses = ap (clausesAt s (at + 2)) ready-count ∙ clauses-at s (at + 2) (b .clauses) (ready-recorded .stands)
+  ready-clauses = ap (clausesAt image (at + 2)) ready-count ∙ clauses-at image (at + 2) (book .clauses) (ready-recorded .stands)

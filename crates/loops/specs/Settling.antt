@@ -256,38 +256,38 @@ pub settling-start : {cs : List Clause} {heads earlier latest waits : List ℕ} 
 unfolding among
 settling-start t q = record { few = omega arith; long = t .long .3; queued = q; awaited = t .counts; settled = λ i l. absurd (omega arith) }
 
-module _ {cs : List Clause} {atoms : ℕ} {waits queue : List ℕ} {joined taken : ℕ} (k : Known atoms cs) (s : Settling cs atoms waits queue joined taken) where
+module _ {cs : List Clause} {atoms : ℕ} {waits queue : List ℕ} {joined taken : ℕ} (all-known : Known atoms cs) (settling : Settling cs atoms waits queue joined taken) where
   mention-known : (m : Mention) → m ∈ mentions cs → (m .head < atoms) × (m .atom < atoms)
   mention-known m j =
       let f = source cs m j in
-      (subst (λ (x : ℕ). x < atoms) (f .heads) (k .heads (f .clause) (f .among)), subst (λ (x : ℕ). x < atoms) (f .atoms) (k .bodies (f .clause) (f .among) (f .lit) (f .within)))
+      (subst (λ (x : ℕ). x < atoms) (f .heads) (all-known .heads (f .clause) (f .among)), subst (λ (x : ℕ). x < atoms) (f .atoms) (all-known .bodies (f .clause) (f .among) (f .lit) (f .within)))
 
   module _ (more : taken < joined) where
     abbrev q : ℕ
     q = getD queue taken 0
 
     idle : Idle atoms waits q
-    idle = s .queued .holds .only taken more
+    idle = settling .queued .holds .only taken more
 
     fresh : among queue taken q ≡ false
-    fresh = ⊎-elim (λ e. let f = among-placed queue taken q e in absurd (s .queued .holds .once (f .0) taken (f .1) more (f .2))) (λ e. e) (decide (among queue taken q))
+    fresh = ⊎-elim (λ e. let f = among-placed queue taken q e in absurd (settling .queued .holds .once (f .0) taken (f .1) more (f .2))) (λ e. e) (decide (among queue taken q))
 
     splits : (p : ℕ) → p < limits .atoms → getD waits p 0 ≡ times p (mentioning q (mentions cs)) + waiting (among queue (suc taken)) p (mentions cs)
     unfolding among
-    splits p l = s .awaited p l ∙ waiting-released (among queue taken) q p fresh (mentions cs)
+    splits p l = settling .awaited p l ∙ waiting-released (among queue taken) q p fresh (mentions cs)
 
     pub settling-due : {heads earlier latest waits₀ : List ℕ} {n : ℕ} → Tallied heads earlier latest waits₀ n (mentions cs)
         → Due heads earlier (getD latest (getD queue taken 0) 0) waits queue joined atoms (mentioning (getD queue taken 0) (mentions cs))
     settling-due t =
-        let l : getD queue taken 0 < limits .atoms = omega (arith, idle .0, k .most) in
+        let l : getD queue taken 0 < limits .atoms = omega (arith, idle .0, all-known .most) in
         record {
-          most = k .most;
-          long = s .long;
+          most = all-known .most;
+          long = settling .long;
           within = omega (arith, t .within (getD queue taken 0) l, t .few);
           chain = t .chains (getD queue taken 0) l;
           known = mentioning-known atoms (getD queue taken 0) (mentions cs) (λ m j. mention-known m j .0);
           owed = λ p j. omega (arith, splits p j);
-          queued = s .queued;
+          queued = settling .queued;
         }
 
     pub settling-next : {waits′ queue′ : List ℕ} {joined′ : ℕ} → Released waits queue joined waits′ queue′ joined′ atoms (mentioning (getD queue taken 0) (mentions cs))
@@ -310,36 +310,36 @@ module _ {cs : List Clause} {atoms : ℕ} {waits queue : List ℕ} {joined taken
         }
       where
         calm : (p : ℕ) → Placed queue taken p → pending cs taken p ≡ false
-        calm p f = subst (λ (x : ℕ). pending cs taken x ≡ false) (f .2) (s .settled (f .0) (f .1))
+        calm p f = subst (λ (x : ℕ). pending cs taken x ≡ false) (f .2) (settling .settled (f .0) (f .1))
 
         last : pending cs (suc taken) q ≡ true → ⊥
         last e =
             let f = pending-from cs taken q e in
-            let l : q < limits .atoms = omega (arith, idle .0, k .most) in
+            let l : q < limits .atoms = omega (arith, idle .0, all-known .most) in
             let m : Mention = record { head = f .clause .head; atom = f .lit .atom } in
-            let done = waiting-none (among queue taken) q (mentions cs) (sym (s .awaited q l) ∙ idle .1) m (mentioned cs (f .clause) (f .lit) (f .among) (f .within)) (f .heads) in
+            let done = waiting-none (among queue taken) q (mentions cs) (sym (settling .awaited q l) ∙ idle .1) m (mentioned cs (f .clause) (f .lit) (f .among) (f .within)) (f .heads) in
             clash (f .holds) (calm (f .lit .atom) (among-placed queue taken (f .lit .atom) done))
 
         never : (i : ℕ) → i < suc taken → pending cs (suc taken) (getD queue i 0) ≡ true → ⊥
         never i l e =
             ⊎-elim (λ c. last (subst (λ (j : ℕ). pending cs (suc taken) (getD queue j 0) ≡ true) (eqb-true i taken c) e))
-            (λ c. let o : i ≡ taken → ⊥ = eqb-false i taken c in clash (pending-less cs taken (getD queue i 0) e) (s .settled i (omega arith))) (decide (eqb i taken))
+            (λ c. let o : i ≡ taken → ⊥ = eqb-false i taken c in clash (pending-less cs taken (getD queue i 0) e) (settling .settled i (omega arith))) (decide (eqb i taken))
 
   module _ (over : joined ≤ taken) where
     all-taken : taken ≡ joined
-    all-taken = omega (arith, s .few)
+    all-taken = omega (arith, settling .few)
 
     -- what waits at the end is pending in every round
     stuck : (n p : ℕ) → p < atoms → (getD waits p 0 ≡ 0 → ⊥) → pending cs n p ≡ true
     unfolding pending
     stuck zero p l busy = refl
     stuck (suc n) p l busy =
-        let some = waiting-some (among queue taken) p (mentions cs) (λ z. busy (s .awaited p (omega (arith, k .most)) ∙ z)) in
+        let some = waiting-some (among queue taken) p (mentions cs) (λ z. busy (settling .awaited p (omega (arith, all-known .most)) ∙ z)) in
         let m : Mention = some .0 in
         let f = source cs m (some .1) in
         let known : m .atom < atoms = mention-known m (some .1) .1 in
         let waits : getD waits (m .atom) 0 ≡ 0 → ⊥ =
-        λ z. clash (placed-among queue taken (m .atom) (subst (λ (j : ℕ). Placed queue j (m .atom)) (sym all-taken) (s .queued .holds .each (m .atom) (known, z)))) (some .2 .1) in
+        λ z. clash (placed-among queue taken (m .atom) (subst (λ (j : ℕ). Placed queue j (m .atom)) (sym all-taken) (settling .queued .holds .each (m .atom) (known, z)))) (some .2 .1) in
         subst (λ (x : ℕ). pending cs (suc n) x ≡ true) (f .heads ∙ some .2 .0)
         (pending-more cs n (f .clause) (f .lit) (f .among) (f .within) (subst (λ (x : ℕ). pending cs n x ≡ true) (sym (f .atoms)) (stuck n (m .atom) known waits)))
 
@@ -350,10 +350,10 @@ module _ {cs : List Clause} {atoms : ℕ} {waits queue : List ℕ} {joined taken
         free e =
             none-quiet cs atoms atoms
             (λ p l.
-            let f = s .queued .holds .each p (l, zeros-all waits atoms (sym (s .queued .count) ∙ e) p l) in
-            subst₂ (λ (n x : ℕ). pending cs n x ≡ false) (all-taken ∙ e) (f .2) (s .settled (f .0) (omega (arith, f .1))))
+            let f = settling .queued .holds .each p (l, zeros-all waits atoms (sym (settling .queued .count) ∙ e) p l) in
+            subst₂ (λ (n x : ℕ). pending cs n x ≡ false) (all-taken ∙ e) (f .2) (settling .settled (f .0) (omega (arith, f .1))))
 
         loop : (joined ≡ atoms → ⊥) → quiet cs atoms atoms ≡ false
         loop e =
-            let f = zeros-not waits atoms (λ z. e (s .queued .count ∙ z)) in
+            let f = zeros-not waits atoms (λ z. e (settling .queued .count ∙ z)) in
             ⊎-elim (λ h. clash (stuck atoms (f .0) (f .1) (f .2)) (quiet-none cs atoms atoms h (f .0) (f .1))) (λ h. h) (decide (quiet cs atoms atoms))

@@ -45,15 +45,15 @@ pub record Started (image work work′ : List ℕ) (run : Run) : Type 0 where
   pub count : run .count ≡ 0
   pub later : drop layout.end work′ ≡ drop layout.end work
 
-module _ (image work work′ : List ℕ) (f : Filled image work work′) (clauses : ℕ) (g : clauses ≡ clauseCountAt image) where
+module _ (image work work′ : List ℕ) (filled : Filled image work work′) (clauses : ℕ) (is-clauses : clauses ≡ clauseCountAt image) where
   abbrev its : Book
   its = bookIn image
 
   agenda : Leads image its (of work′) work′ 0 (rootAgenda clauses) (map want (its .goal) ++ map keep (its .constraints))
   unfolding clauseCountAt
   agenda =
-      let sh : Shown image its = shown image its (f .ground .book) in
-      go clauses (its .goal) (g ∙ ap (λ (n : ℕ). goalAt + 2 * n) (sh .goals)) (sh .goal)
+      let sh : Shown image its = shown image its (filled .ground .book) in
+      go clauses (its .goal) (is-clauses ∙ ap (λ (n : ℕ). goalAt + 2 * n) (sh .goals)) (sh .goal)
     where
       go : (end : ℕ) (ls : List Lit) → end ≡ goalAt + 2 * length ls → Stands image goalAt (ofLits ls)
           → Leads image its (of work′) work′ 0 (rootAgenda end) (map want ls ++ map keep (its .constraints))
@@ -75,8 +75,8 @@ module _ (image work work′ : List ℕ) (f : Filled image work work′) (clause
 
   root-fine : Fine its 0 (root its)
   root-fine =
-      let fine : Within limits its = within image its (f .ground .book) in
-      (omega (arith, root-frames its, fine .constraints, fine .atoms, fine .clauses), root-named its (orderly image its (f .ground .book)))
+      let fine : Within limits its = within image its (filled .ground .book) in
+      (omega (arith, root-frames its, fine .constraints, fine .atoms, fine .clauses), root-named its (orderly image its (filled .ground .book)))
 
   root-holds : Holds image its work′ (rootRun clauses) (root its ∷ [])
   root-holds = record {
@@ -86,8 +86,8 @@ module _ (image work work′ : List ℕ) (f : Filled image work work′) (clause
     used = 0;
     sheet = [];
     due = [];
-    ground = f .ground;
-    area = f .area;
+    ground = filled .ground;
+    area = filled .area;
     trail = Trail.none;
     held = bottom;
     chosen = set-none;
@@ -102,7 +102,7 @@ module _ (image work work′ : List ℕ) (f : Filled image work work′) (clause
     state = ap (λ (o : Run). o .state) e;
     nodes = ap (λ (o : Run). o .nodes) e;
     count = ap (λ (o : Run). o .count) e;
-    later = behind-stays work work′ layout.end (f .size) (λ j h. f .stays j (omega arith));
+    later = behind-stays work work′ layout.end (filled .size) (λ j h. filled .stays j (omega arith));
   }
 
 -- ---- the search begins at the root

@@ -127,39 +127,39 @@ passes-backed work run work′ run′ e (over f j p) =
 
 -- ---- a node
 
-module _ (image : List ℕ) (budget : ℕ) (sets work : List ℕ) (run : Run) (h : Searching image budget sets work run) (st : run .state ≡ TASK) where
+module _ (image : List ℕ) (budget : ℕ) (sets work : List ℕ) (run : Run) (searching : Searching image budget sets work run) (st : run .state ≡ TASK) where
   -- what is due begins with the node in hand
   record Due : Type 0 where
     x : Node
     rest : List Node
-    is : h .all ≡ x ∷ rest
+    is : searching .all ≡ x ∷ rest
 
   due-node : Due
-  due-node = go (in-hand (h .holds) st) refl
+  due-node = go (in-hand (searching .holds) st) refl
     where
-      go : {xs : List Node} → HandIn (h .holds) TASK (run .task) (run .agenda) xs → h .all ≡ xs → Due
-      go (literal {ts} l a f) i = record { x = nodeOf (want (litOf (run .task)) ∷ ts) (h .holds .sheet); rest = h .holds .due; is = i }
-      go (record-at {lss} {ts} p q c a f) i = record { x = nodeOf (pick lss ∷ ts) (h .holds .sheet); rest = h .holds .due; is = i }
-      go (last p q c) i = record { x = nodeOf [] (h .holds .sheet); rest = h .holds .due; is = i }
+      go : {xs : List Node} → HandIn (searching .holds) TASK (run .task) (run .agenda) xs → searching .all ≡ xs → Due
+      go (literal {ts} l a f) i = record { x = nodeOf (want (litOf (run .task)) ∷ ts) (searching .holds .sheet); rest = searching .holds .due; is = i }
+      go (record-at {lss} {ts} p q c a f) i = record { x = nodeOf (pick lss ∷ ts) (searching .holds .sheet); rest = searching .holds .due; is = i }
+      go (last p q c) i = record { x = nodeOf [] (searching .holds .sheet); rest = searching .holds .due; is = i }
 
-  at-node : Holds image (h .b) work run (due-node .x ∷ due-node .rest)
-  at-node = subst (Holds image (h .b) work run) (due-node .is) (h .holds)
+  at-node : Holds image (searching .b) work run (due-node .x ∷ due-node .rest)
+  at-node = subst (Holds image (searching .b) work run) (due-node .is) (searching .holds)
 
-  at-counted : Holds image (h .b) work (counting run) (due-node .x ∷ due-node .rest)
+  at-counted : Holds image (searching .b) work (counting run) (due-node .x ∷ due-node .rest)
   at-counted = counting-holds at-node
 
   pub searching-tasked : Tasked work run
-  searching-tasked = record { image = image; b = h .b; x = due-node .x; rest = due-node .rest; holds = at-node; state = st }
+  searching-tasked = record { image = image; b = searching .b; x = due-node .x; rest = due-node .rest; holds = at-node; state = st }
 
   before : (run .nodes ≡ budget → ⊥) → run .nodes < budget
-  before n = omega (arith, n, h .nodes)
+  before n = omega (arith, n, searching .nodes)
 
   -- the rules' search, with one node more to visit
   start : (run .nodes ≡ budget → ⊥)
-      → run-from (h .b) (length sets) budget (root (h .b)) ≡ Rules.run (h .b) (length sets) (suc (budget - (run .nodes + 1))) (due-node .x ∷ due-node .rest) (take (run .count) sets) (run .nodes)
+      → run-from (searching .b) (length sets) budget (root (searching .b)) ≡ Rules.run (searching .b) (length sets) (suc (budget - (run .nodes + 1))) (due-node .x ∷ due-node .rest) (take (run .count) sets) (run .nodes)
   start n =
       let left : budget - run .nodes ≡ suc (budget - (run .nodes + 1)) = omega (arith, before n) in
-      h .answer ∙ ap₂ (λ (k : ℕ) (l : List Node). Rules.run (h .b) (length sets) k l (take (run .count) sets) (run .nodes)) left (due-node .is)
+      searching .answer ∙ ap₂ (λ (k : ℕ) (l : List Node). Rules.run (searching .b) (length sets) k l (take (run .count) sets) (run .nodes)) left (due-node .is)
 
   one-more : suc (run .nodes) ≡ run .nodes + 1
   one-more = omega arith
@@ -167,85 +167,85 @@ module _ (image : List ℕ) (budget : ℕ) (sets work : List ℕ) (run : Run) (h
   went-short : run .nodes ≡ budget → State image budget sets work (inState run SPENT) FAILED (suc (run .nodes))
   went-short n =
       let spent : budget - run .nodes ≡ 0 = omega (arith, n) in
-      let o : run-from (h .b) (length sets) budget (root (h .b)) ≡ Rules.used-up (run .nodes) =
-      h .answer ∙ ap₂ (λ (k : ℕ) (l : List Node). Rules.run (h .b) (length sets) k l (take (run .count) sets) (run .nodes)) spent (due-node .is)
-      ∙ run-short (h .b) (length sets) (due-node .x) (due-node .rest) (take (run .count) sets) (run .nodes) in
-      ended (h .b) (h .holds .ground .book) (out-of-budget refl o) (omega arith)
+      let o : run-from (searching .b) (length sets) budget (root (searching .b)) ≡ Rules.used-up (run .nodes) =
+      searching .answer ∙ ap₂ (λ (k : ℕ) (l : List Node). Rules.run (searching .b) (length sets) k l (take (run .count) sets) (run .nodes)) spent (due-node .is)
+      ∙ run-short (searching .b) (length sets) (due-node .x) (due-node .rest) (take (run .count) sets) (run .nodes) in
+      ended (searching .b) (searching .holds .ground .book) (out-of-budget refl o) (omega arith)
 
   run-some : (x : Node) (rest : List Node) (m : ℕ) (kept : List ℕ) (n : ℕ) → (x .agenda ≡ [] → ⊥) → length kept ≤ length sets
-      → Rules.run (h .b) (length sets) (suc m) (x ∷ rest) kept n ≡ Rules.run (h .b) (length sets) m (children (h .b) x ++ rest) kept (suc n)
+      → Rules.run (searching .b) (length sets) (suc m) (x ∷ rest) kept n ≡ Rules.run (searching .b) (length sets) m (children (searching .b) x ++ rest) kept (suc n)
   run-some x rest m kept n f g = go (x .agenda) refl
     where
-      go : (ts : List Task) → x .agenda ≡ ts → Rules.run (h .b) (length sets) (suc m) (x ∷ rest) kept n ≡ Rules.run (h .b) (length sets) m (children (h .b) x ++ rest) kept (suc n)
+      go : (ts : List Task) → x .agenda ≡ ts → Rules.run (searching .b) (length sets) (suc m) (x ∷ rest) kept n ≡ Rules.run (searching .b) (length sets) m (children (searching .b) x ++ rest) kept (suc n)
       go [] e = absurd (f e)
       go (t ∷ ts) e =
           let is : x ≡ nodeOf (t ∷ ts) (x .sheet) = ap (λ (l : List Task). nodeOf l (x .sheet)) e in
-          subst (λ (y : Node). Rules.run (h .b) (length sets) (suc m) (y ∷ rest) kept n ≡ Rules.run (h .b) (length sets) m (children (h .b) y ++ rest) kept (suc n)) (sym is)
-          (run-task (h .b) (length sets) m t ts (x .sheet) rest kept n g)
+          subst (λ (y : Node). Rules.run (searching .b) (length sets) (suc m) (y ∷ rest) kept n ≡ Rules.run (searching .b) (length sets) m (children (searching .b) y ++ rest) kept (suc n)) (sym is)
+          (run-task (searching .b) (length sets) m t ts (x .sheet) rest kept n g)
 
   went-task : (work′ : List ℕ) (run′ : Run) → (run .nodes ≡ budget → ⊥) → Visited work (counting run) work′ run′ → State image budget sets work′ run′ FAILED (suc (run .nodes))
   went-task work′ run′ n a =
       let kept : length (take (run .count) sets) ≤ length sets = omega (arith, length-take (run .count) sets) in
-      let o : run-from (h .b) (length sets) budget (root (h .b)) ≡ Rules.run (h .b) (length sets) (budget - run′ .nodes) (children (h .b) (due-node .x) ++ due-node .rest) (take (run′ .count) sets) (run′ .nodes) =
+      let o : run-from (searching .b) (length sets) budget (root (searching .b)) ≡ Rules.run (searching .b) (length sets) (budget - run′ .nodes) (children (searching .b) (due-node .x) ++ due-node .rest) (take (run′ .count) sets) (run′ .nodes) =
       start n
-      ∙ run-some (due-node .x) (due-node .rest) (budget - (run .nodes + 1)) (take (run .count) sets) (run .nodes) (a .some image (h .b) (due-node .x) (due-node .rest) at-counted) kept
-      ∙ same (children (h .b) (due-node .x) ++ due-node .rest) (run′ .nodes) (run′ .count) (omega (arith, a .nodes)) (omega (arith, a .nodes)) (sym (a .count)) in
+      ∙ run-some (due-node .x) (due-node .rest) (budget - (run .nodes + 1)) (take (run .count) sets) (run .nodes) (a .some image (searching .b) (due-node .x) (due-node .rest) at-counted) kept
+      ∙ same (children (searching .b) (due-node .x) ++ due-node .rest) (run′ .nodes) (run′ .count) (omega (arith, a .nodes)) (omega (arith, a .nodes)) (sym (a .count)) in
       goes-on
       (record {
-        b = h .b;
-        all = children (h .b) (due-node .x) ++ due-node .rest;
-        holds = a .holds image (h .b) (due-node .x) (due-node .rest) at-counted;
+        b = searching .b;
+        all = children (searching .b) (due-node .x) ++ due-node .rest;
+        holds = a .holds image (searching .b) (due-node .x) (due-node .rest) at-counted;
         nodes = omega (arith, a .nodes, before n);
-        count = omega (arith, a .count, h .count);
-        entries = h .entries;
+        count = omega (arith, a .count, searching .count);
+        entries = searching .entries;
         answer = o;
       })
       (a .state) (omega (arith, a .nodes))
     where
       same : (l : List Node) (m c : ℕ) → budget - (run .nodes + 1) ≡ budget - m → suc (run .nodes) ≡ m → run .count ≡ c
-          → Rules.run (h .b) (length sets) (budget - (run .nodes + 1)) l (take (run .count) sets) (suc (run .nodes)) ≡ Rules.run (h .b) (length sets) (budget - m) l (take c sets) m
+          → Rules.run (searching .b) (length sets) (budget - (run .nodes + 1)) l (take (run .count) sets) (suc (run .nodes)) ≡ Rules.run (searching .b) (length sets) (budget - m) l (take c sets) m
       same l m c p q i = rw (p, q, i)
 
   went-success : (after : List ℕ) (run′ : Run) → (run .nodes ≡ budget → ⊥) → Success work (counting run) → SuccessKept sets (counting run) after run′ → State image budget after work run′ FAILED (suc (run .nodes))
   went-success after run′ n a c = go c
     where
       node : due-node .x ≡ nodeOf [] (due-node .x .sheet)
-      node = ap (λ (l : List Task). nodeOf l (due-node .x .sheet)) (a .ends image (h .b) (due-node .x) (due-node .rest) at-counted)
+      node = ap (λ (l : List Task). nodeOf l (due-node .x .sheet)) (a .ends image (searching .b) (due-node .x) (due-node .rest) at-counted)
 
-      begin : run-from (h .b) (length sets) budget (root (h .b))
-          ≡ Rules.run (h .b) (length sets) (suc (budget - (run .nodes + 1))) (nodeOf [] (due-node .x .sheet) ∷ due-node .rest) (take (run .count) sets) (run .nodes)
-      begin = start n ∙ ap (λ (y : Node). Rules.run (h .b) (length sets) (suc (budget - (run .nodes + 1))) (y ∷ due-node .rest) (take (run .count) sets) (run .nodes)) node
+      begin : run-from (searching .b) (length sets) budget (root (searching .b))
+          ≡ Rules.run (searching .b) (length sets) (suc (budget - (run .nodes + 1))) (nodeOf [] (due-node .x .sheet) ∷ due-node .rest) (take (run .count) sets) (run .nodes)
+      begin = start n ∙ ap (λ (y : Node). Rules.run (searching .b) (length sets) (suc (budget - (run .nodes + 1))) (y ∷ due-node .rest) (take (run .count) sets) (run .nodes)) node
 
-      chosen : insert (take (run .count) sets) (run .set) ≡ insert (take (run .count) sets) (assumed (h .b) (due-node .x .sheet))
-      chosen = ap (insert (take (run .count) sets)) (a .chosen image (h .b) (due-node .x) (due-node .rest) at-counted)
+      chosen : insert (take (run .count) sets) (run .set) ≡ insert (take (run .count) sets) (assumed (searching .b) (due-node .x .sheet))
+      chosen = ap (insert (take (run .count) sets)) (a .chosen image (searching .b) (due-node .x) (due-node .rest) at-counted)
 
       go : SuccessKept sets (counting run) after run′ → State image budget after work run′ FAILED (suc (run .nodes))
       go (full p l i) =
-          let o : run-from (h .b) (length sets) budget (root (h .b)) ≡ no-room (suc (run .nodes)) =
+          let o : run-from (searching .b) (length sets) budget (root (searching .b)) ≡ no-room (suc (run .nodes)) =
           begin
-          ∙ run-full (h .b) (length sets) (budget - (run .nodes + 1)) (due-node .x .sheet) (due-node .rest) (take (run .count) sets) (run .nodes) (subst (λ (z : List ℕ). length sets < length z) chosen p) in
-          let o′ : run-from (h .b) (length after) budget (root (h .b)) ≡ no-room (run .nodes + 1) =
-          ap (λ (m : ℕ). run-from (h .b) m budget (root (h .b))) l ∙ o ∙ ap no-room one-more in
+          ∙ run-full (searching .b) (length sets) (budget - (run .nodes + 1)) (due-node .x .sheet) (due-node .rest) (take (run .count) sets) (run .nodes) (subst (λ (z : List ℕ). length sets < length z) chosen p) in
+          let o′ : run-from (searching .b) (length after) budget (root (searching .b)) ≡ no-room (run .nodes + 1) =
+          ap (λ (m : ℕ). run-from (searching .b) m budget (root (searching .b))) l ∙ o ∙ ap no-room one-more in
           subst (λ (p : Run). State image budget after work p FAILED (suc (run .nodes))) (sym i)
-          (ended (h .b) (h .holds .ground .book) (out-of-room refl o′) (omega arith))
+          (ended (searching .b) (searching .holds .ground .book) (out-of-room refl o′) (omega arith))
       go (inserted m c p t l i) =
-          let o : run-from (h .b) (length sets) budget (root (h .b))
-          ≡ Rules.run (h .b) (length sets) (budget - (run .nodes + 1)) (due-node .rest) (insert (take (run .count) sets) (assumed (h .b) (due-node .x .sheet))) (suc (run .nodes)) =
+          let o : run-from (searching .b) (length sets) budget (root (searching .b))
+          ≡ Rules.run (searching .b) (length sets) (budget - (run .nodes + 1)) (due-node .rest) (insert (take (run .count) sets) (assumed (searching .b) (due-node .x .sheet))) (suc (run .nodes)) =
           begin
-          ∙ run-room (h .b) (length sets) (budget - (run .nodes + 1)) (due-node .x .sheet) (due-node .rest) (take (run .count) sets) (run .nodes) (omega (arith, c, p, ap length chosen)) in
-          let o′ : run-from (h .b) (length after) budget (root (h .b)) ≡ Rules.run (h .b) (length after) (budget - (run .nodes + 1)) (due-node .rest) (take m after) (run .nodes + 1) =
-          ap (λ (z : ℕ). run-from (h .b) z budget (root (h .b))) l ∙ o
-          ∙ ap₂ (λ (z : List ℕ) (y : ℕ). Rules.run (h .b) (length sets) (budget - (run .nodes + 1)) (due-node .rest) z y) (sym (t ∙ chosen)) one-more
-          ∙ ap (λ (z : ℕ). Rules.run (h .b) z (budget - (run .nodes + 1)) (due-node .rest) (take m after) (run .nodes + 1)) (sym l) in
+          ∙ run-room (searching .b) (length sets) (budget - (run .nodes + 1)) (due-node .x .sheet) (due-node .rest) (take (run .count) sets) (run .nodes) (omega (arith, c, p, ap length chosen)) in
+          let o′ : run-from (searching .b) (length after) budget (root (searching .b)) ≡ Rules.run (searching .b) (length after) (budget - (run .nodes + 1)) (due-node .rest) (take m after) (run .nodes + 1) =
+          ap (λ (z : ℕ). run-from (searching .b) z budget (root (searching .b))) l ∙ o
+          ∙ ap₂ (λ (z : List ℕ) (y : ℕ). Rules.run (searching .b) (length sets) (budget - (run .nodes + 1)) (due-node .rest) z y) (sym (t ∙ chosen)) one-more
+          ∙ ap (λ (z : ℕ). Rules.run (searching .b) z (budget - (run .nodes + 1)) (due-node .rest) (take m after) (run .nodes + 1)) (sym l) in
           subst (λ (p : Run). State image budget after work p FAILED (suc (run .nodes))) (sym i)
           (goes-on
           (record {
-            b = h .b;
+            b = searching .b;
             all = due-node .rest;
-            holds = a .after image (h .b) (due-node .x) (due-node .rest) m at-counted;
+            holds = a .after image (searching .b) (due-node .x) (due-node .rest) m at-counted;
             nodes = omega (arith, before n);
             count = omega (arith, p, l);
-            entries = omega (arith, h .entries, l);
+            entries = omega (arith, searching .entries, l);
             answer = o′;
           })
           (omega arith) (omega arith))

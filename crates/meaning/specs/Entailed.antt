@@ -53,28 +53,28 @@ known-literal i v l e = ap (λ (t : Truth). choose (l .sign) t (not₃ t)) e ∙
     go true t = refl
     go false t = known-not t
 
-module _ (v : ℕ → Bool) where
+module _ (values : ℕ → Bool) where
   -- the interpretation that knows each atom's value
   abbrev Knows : ℕ → Truth
-  Knows p = known (v p)
+  Knows p = known (values p)
 
-  known-body : (ls : List Lit) → body ls Knows ≡ known (all-true v ls)
-  known-body ls = known-all (literal Knows) (true-in v) ls (λ l m. known-literal Knows v l refl)
+  known-body : (ls : List Lit) → body ls Knows ≡ known (all-true values ls)
+  known-body ls = known-all (literal Knows) (true-in values) ls (λ l m. known-literal Knows values l refl)
 
-  known-implication : (k : Constraint) → implication k Knows ≡ known (holds v k)
+  known-implication : (k : Constraint) → implication k Knows ≡ known (holds values k)
   known-implication k =
       ap₂ (λ (s t : Truth). or₃ (not₃ s) t) (known-body (k .conditions))
-      (known-any (λ (ls : List Lit). body ls Knows) (all-true v) (k .alternatives) (λ ls m. known-body ls))
-      ∙ ap (λ (t : Truth). or₃ t (known (any (all-true v) (k .alternatives)))) (known-not (all-true v (k .conditions)) ∙ ap known (some-false (k .conditions)))
-      ∙ known-or (any (λ (l : Lit). not (true-in v l)) (k .conditions)) (any (all-true v) (k .alternatives))
+      (known-any (λ (ls : List Lit). body ls Knows) (all-true values) (k .alternatives) (λ ls m. known-body ls))
+      ∙ ap (λ (t : Truth). or₃ t (known (any (all-true values) (k .alternatives)))) (known-not (all-true values (k .conditions)) ∙ ap known (some-false (k .conditions)))
+      ∙ known-or (any (λ (l : Lit). not (true-in values l)) (k .conditions)) (any (all-true values) (k .alternatives))
     where
       step : (s t : Bool) → not (s && t) ≡ (not s || not t)
       step true t = refl
       step false t = refl
 
-      some-false : (ls : List Lit) → not (all-true v ls) ≡ any (λ (l : Lit). not (true-in v l)) ls
+      some-false : (ls : List Lit) → not (all-true values ls) ≡ any (λ (l : Lit). not (true-in values l)) ls
       some-false [] = refl
-      some-false (l ∷ ls) = step (true-in v l) (all-true v ls) ∙ ap (λ (t : Bool). not (true-in v l) || t) (some-false ls)
+      some-false (l ∷ ls) = step (true-in values l) (all-true values ls) ∙ ap (λ (t : Bool). not (true-in values l) || t) (some-false ls)
 
 -- what the completion says of p, in one expression
 completed : Book → ℕ → (ℕ → Truth) → ℕ → Truth
@@ -110,42 +110,42 @@ completed-found b d i v p h =
     go true = refl
     go false = refl
 
-module _ (b : Book) (o : Orderly b) (d : ℕ) where
+module _ (book : Book) (orderly : Orderly book) (set : ℕ) where
   -- The values, each known, are a model of the completion.
-  pub completed-value : Completed b d (λ (p : ℕ). known (value b d p))
+  pub completed-value : Completed book set (λ (p : ℕ). known (value book set p))
   completed-value =
-      says-completed b d (Knows (value b d))
-      (λ p. ap known (value-model b o d p) ∙ sym (completed-found b d (Knows (value b d)) (value b d) p (λ c m l k. refl)))
+      says-completed book set (Knows (value book set))
+      (λ p. ap known (value-model book orderly set p) ∙ sym (completed-found book set (Knows (value book set)) (value book set) p (λ c m l k. refl)))
 
   -- In every model of the completion every atom has its value: none is unknown.
-  pub value-completed : (i : ℕ → Truth) → Completed b d i → (p : ℕ) → i p ≡ known (value b d p)
+  pub value-completed : (i : ℕ → Truth) → Completed book set i → (p : ℕ) → i p ≡ known (value book set p)
   value-completed i h =
-      by-rank b o (λ (p : ℕ). i p ≡ known (value b d p))
-      (λ p ih. completed-says b d i h p ∙ completed-found b d i (value b d) p ih ∙ ap known (sym (value-model b o d p)))
+      by-rank book orderly (λ (p : ℕ). i p ≡ known (value book set p))
+      (λ p ih. completed-says book set i h p ∙ completed-found book set i (value book set) p ih ∙ ap known (sym (value-model book orderly set p)))
 
   -- So to be entailed is to be true in that one model.
-  entails : (formula : (ℕ → Truth) → Truth) (t : Bool) → formula (Knows (value b d)) ≡ known t → t ≡ true → Entailed b d formula
+  entails : (formula : (ℕ → Truth) → Truth) (t : Bool) → formula (Knows (value book set)) ≡ known t → t ≡ true → Entailed book set formula
   entails formula t e h i m = ap formula (fun-ext (value-completed i m)) ∙ e ∙ ap known h
 
-  entailed : (formula : (ℕ → Truth) → Truth) (t : Bool) → formula (Knows (value b d)) ≡ known t → Entailed b d formula → t ≡ true
-  entailed formula t e h = known-true t (sym e ∙ h (Knows (value b d)) completed-value)
+  entailed : (formula : (ℕ → Truth) → Truth) (t : Bool) → formula (Knows (value book set)) ≡ known t → Entailed book set formula → t ≡ true
+  entailed formula t e h = known-true t (sym e ∙ h (Knows (value book set)) completed-value)
 
   -- The goal and the constraints are entailed if and only if the set explains.
-  pub answer-explains : Answer b d ↔ (explains b d ≡ true)
+  pub answer-explains : Answer book set ↔ (explains book set ≡ true)
   answer-explains = (mp, mpr)
     where
-      mp : Answer b d → explains b d ≡ true
+      mp : Answer book set → explains book set ≡ true
       mp a =
-          both (all-true (value b d) (b .goal)) (all (holds (value b d)) (b .constraints))
-          (entailed (body (b .goal)) (all-true (value b d) (b .goal)) (known-body (value b d) (b .goal)) (a .goal))
-          (every-all (holds (value b d)) (b .constraints)
-          (λ k m. entailed (implication k) (holds (value b d) k) (known-implication (value b d) k) (a .constraints k m)))
+          both (all-true (value book set) (book .goal)) (all (holds (value book set)) (book .constraints))
+          (entailed (body (book .goal)) (all-true (value book set) (book .goal)) (known-body (value book set) (book .goal)) (a .goal))
+          (every-all (holds (value book set)) (book .constraints)
+          (λ k m. entailed (implication k) (holds (value book set) k) (known-implication (value book set) k) (a .constraints k m)))
 
-      mpr : explains b d ≡ true → Answer b d
+      mpr : explains book set ≡ true → Answer book set
       mpr e =
           record {
-            constraints = λ k m. entails (implication k) (holds (value b d) k) (known-implication (value b d) k)
-                (all-every (holds (value b d)) (b .constraints) (both-right (all-true (value b d) (b .goal)) (all (holds (value b d)) (b .constraints)) e) k m);
-            goal = entails (body (b .goal)) (all-true (value b d) (b .goal)) (known-body (value b d) (b .goal))
-                (both-left (all-true (value b d) (b .goal)) (all (holds (value b d)) (b .constraints)) e);
+            constraints = λ k m. entails (implication k) (holds (value book set) k) (known-implication (value book set) k)
+                (all-every (holds (value book set)) (book .constraints) (both-right (all-true (value book set) (book .goal)) (all (holds (value book set)) (book .constraints)) e) k m);
+            goal = entails (body (book .goal)) (all-true (value book set) (book .goal)) (known-body (value book set) (book .goal))
+                (both-left (all-true (value book set) (book .goal)) (all (holds (value book set)) (book .constraints)) e);
           }

@@ -41,39 +41,39 @@ found-same b d v w p h =
     (any-same (λ (c : Clause). all-true v (c .body)) (λ (c : Clause). all-true w (c .body)) (clausesFor b p)
     (λ c m. all-same (true-in v) (true-in w) (c .body) (λ l k. same-true v w l (h c m l k))))
 
-module _ (b : Book) (o : Orderly b) where
+module _ (book : Book) (orderly : Orderly book) where
   -- the atoms of p's clauses have a smaller rank
-  pub lower : (p : ℕ) (c : Clause) → c ∈ clausesFor b p → (l : Lit) → l ∈ c .body → o .rank (l .atom) < o .rank p
+  pub lower : (p : ℕ) (c : Clause) → c ∈ clausesFor book p → (l : Lit) → l ∈ c .body → orderly .rank (l .atom) < orderly .rank p
   lower p c m l k =
-      let f = for-clause b p m in
-      rw (f .1) at (o .falls c (f .0) l k)
+      let f = for-clause book p m in
+      rw (f .1) at (orderly .falls c (f .0) l k)
 
   -- what holds of an atom whenever it holds of the atoms of its clauses holds of every atom
-  pub by-rank : (P : ℕ → Type 0) → ((p : ℕ) → ((c : Clause) → c ∈ clausesFor b p → (l : Lit) → l ∈ c .body → P (l .atom)) → P p) → (p : ℕ) → P p
-  by-rank P step p = go (suc (o .rank p)) p (omega arith)
+  pub by-rank : (P : ℕ → Type 0) → ((p : ℕ) → ((c : Clause) → c ∈ clausesFor book p → (l : Lit) → l ∈ c .body → P (l .atom)) → P p) → (p : ℕ) → P p
+  by-rank P step p = go (suc (orderly .rank p)) p (omega arith)
     where
-      go : (n : ℕ) (q : ℕ) → o .rank q < n → P q
+      go : (n : ℕ) (q : ℕ) → orderly .rank q < n → P q
       go zero q h = absurd (omega arith)
       go (suc n) q h = step q (λ c m l k. go n (l .atom) (omega (arith, lower q c m l k)))
 
   -- one more level changes nothing once it is deeper than the rank
-  steady : (d n p : ℕ) → o .rank p < n → valued b d n p ≡ valued b d (suc n) p
+  steady : (d n p : ℕ) → orderly .rank p < n → valued book d n p ≡ valued book d (suc n) p
   unfolding valued
   steady d zero p h = absurd (omega arith)
   steady d (suc n) p h =
-      found-same b d (valued b d n) (valued b d (suc n)) p
+      found-same book d (valued book d n) (valued book d (suc n)) p
       (λ c m l k. steady d n (l .atom) (omega (arith, lower p c m l k)))
 
   -- The values are a model.
-  pub value-model : (d : ℕ) → Model b d (value b d)
+  pub value-model : (d : ℕ) → Model book d (value book d)
   unfolding valued
-  value-model d p = steady d (depth b) p (omega (arith, o .ranked p))
+  value-model d p = steady d (depth book) p (omega (arith, orderly .ranked p))
 
   -- Two models agree on every atom.
-  pub models-agree : (d : ℕ) (v w : ℕ → Bool) → Model b d v → Model b d w → (p : ℕ) → v p ≡ w p
+  pub models-agree : (d : ℕ) (v w : ℕ → Bool) → Model book d v → Model book d w → (p : ℕ) → v p ≡ w p
   models-agree d v w mv mw =
-      by-rank (λ (p : ℕ). v p ≡ w p) (λ p ih. mv p ∙ found-same b d v w p ih ∙ sym (mw p))
+      by-rank (λ (p : ℕ). v p ≡ w p) (λ p ih. mv p ∙ found-same book d v w p ih ∙ sym (mw p))
 
   -- So the values are the only model.
-  pub value-only : (d : ℕ) (v : ℕ → Bool) → Model b d v → (p : ℕ) → v p ≡ value b d p
-  value-only d v m = models-agree d v (value b d) m (value-model d)
+  pub value-only : (d : ℕ) (v : ℕ → Bool) → Model book d v → (p : ℕ) → v p ≡ value book d p
+  value-only d v m = models-agree d v (value book d) m (value-model d)

@@ -27,36 +27,36 @@ use Rattle.memory.specs.Pieces.{LaidDown, nothing, cell}
 abbrev celled : List ℕ → ℕ → Agenda → List ℕ
 celled work i a = set (set (set work i (a .at)) (i + 1) (a .end)) (i + 2) (a .link)
 
-module _ (work : List ℕ) (i : ℕ) (a : Agenda) where
-  cell-length : length (celled work i a) ≡ length work
+module _ (work : List ℕ) (place : ℕ) (agenda : Agenda) where
+  cell-length : length (celled work place agenda) ≡ length work
   cell-length = simp length-set
 
-  cell-other : (j : ℕ) → (j ≡ i → ⊥) → (j ≡ i + 1 → ⊥) → (j ≡ i + 2 → ⊥) → getD (celled work i a) j 0 ≡ getD work j 0
+  cell-other : (j : ℕ) → (j ≡ place → ⊥) → (j ≡ place + 1 → ⊥) → (j ≡ place + 2 → ⊥) → getD (celled work place agenda) j 0 ≡ getD work j 0
   cell-other j p q o =
-      getD-set-other (set (set work i (a .at)) (i + 1) (a .end)) (i + 2) j (a .link) 0 o ∙ getD-set-other (set work i (a .at)) (i + 1) j (a .end) 0 q
-      ∙ getD-set-other work i j (a .at) 0 p
+      getD-set-other (set (set work place (agenda .at)) (place + 1) (agenda .end)) (place + 2) j (agenda .link) 0 o ∙ getD-set-other (set work place (agenda .at)) (place + 1) j (agenda .end) 0 q
+      ∙ getD-set-other work place j (agenda .at) 0 p
 
-  module _ (h : i + 2 < length work) where
-    cell-at : getD (celled work i a) i 0 ≡ a .at
+  module _ (fits : place + 2 < length work) where
+    cell-at : getD (celled work place agenda) place 0 ≡ agenda .at
     cell-at =
-        getD-set-other (set (set work i (a .at)) (i + 1) (a .end)) (i + 2) i (a .link) 0 (λ e. omega (arith, e))
-        ∙ getD-set-other (set work i (a .at)) (i + 1) i (a .end) 0 (λ e. omega (arith, e))
-        ∙ getD-set-same work i (a .at) 0 (omega arith)
+        getD-set-other (set (set work place (agenda .at)) (place + 1) (agenda .end)) (place + 2) place (agenda .link) 0 (λ e. omega (arith, e))
+        ∙ getD-set-other (set work place (agenda .at)) (place + 1) place (agenda .end) 0 (λ e. omega (arith, e))
+        ∙ getD-set-same work place (agenda .at) 0 (omega arith)
 
-    cell-end : getD (celled work i a) (i + 1) 0 ≡ a .end
+    cell-end : getD (celled work place agenda) (place + 1) 0 ≡ agenda .end
     cell-end =
-        getD-set-other (set (set work i (a .at)) (i + 1) (a .end)) (i + 2) (i + 1) (a .link) 0 (λ e. omega (arith, e))
-        ∙ getD-set-same (set work i (a .at)) (i + 1) (a .end) 0 (omega (arith, length-set work i (a .at)))
+        getD-set-other (set (set work place (agenda .at)) (place + 1) (agenda .end)) (place + 2) (place + 1) (agenda .link) 0 (λ e. omega (arith, e))
+        ∙ getD-set-same (set work place (agenda .at)) (place + 1) (agenda .end) 0 (omega (arith, length-set work place (agenda .at)))
 
-    cell-link : getD (celled work i a) (i + 2) 0 ≡ a .link
+    cell-link : getD (celled work place agenda) (place + 2) 0 ≡ agenda .link
     cell-link =
-        getD-set-same (set (set work i (a .at)) (i + 1) (a .end)) (i + 2) (a .link) 0
-        (omega (arith, length-set (set work i (a .at)) (i + 1) (a .end), length-set work i (a .at)))
+        getD-set-same (set (set work place (agenda .at)) (place + 1) (agenda .end)) (place + 2) (agenda .link) 0
+        (omega (arith, length-set (set work place (agenda .at)) (place + 1) (agenda .end), length-set work place (agenda .at)))
 
-  cell-later : i + 2 < layout.end → drop layout.end (celled work i a) ≡ drop layout.end work
+  cell-later : place + 2 < layout.end → drop layout.end (celled work place agenda) ≡ drop layout.end work
   cell-later h =
-      drop-set-lt layout.end (set (set work i (a .at)) (i + 1) (a .end)) (i + 2) (a .link) h ∙ drop-set-lt layout.end (set work i (a .at)) (i + 1) (a .end) (omega arith)
-      ∙ drop-set-lt layout.end work i (a .at) (omega arith)
+      drop-set-lt layout.end (set (set work place (agenda .at)) (place + 1) (agenda .end)) (place + 2) (agenda .link) h ∙ drop-set-lt layout.end (set work place (agenda .at)) (place + 1) (agenda .end) (omega arith)
+      ∙ drop-set-lt layout.end work place (agenda .at) (omega arith)
 
 -- ---- small numbers
 
@@ -68,14 +68,14 @@ pub own-apart : {image : List ℕ} {tab : ℕ → ℕ} {at end : ℕ} {ts : List
 own-apart (lits n e l) i = omega arith
 own-apart (records z (record-at p q c k u)) i = omega arith
 
-module _ {image : List ℕ} {b : Book} {tab : ℕ → ℕ} (g : Ground image b tab) where
+module _ {image : List ℕ} {book : Book} {tab : ℕ → ℕ} (ground : Ground image book tab) where
   few : length image ≤ longestImage
-  few = longest-image image b (g .book)
+  few = longest-image image book (ground .book)
 
-  constraints-few : length (b .constraints) ≤ limits .constraints
-  constraints-few = within image b (g .book) .constraints
+  constraints-few : length (book .constraints) ≤ limits .constraints
+  constraints-few = within image book (ground .book) .constraints
 
-  pub tail-small : {work : List ℕ} {m l : ℕ} {us : List Task} → m ≤ limits .atoms → Tail image b tab work m l us → l + 2 < layout.end
+  pub tail-small : {work : List ℕ} {m l : ℕ} {us : List Task} → m ≤ limits .atoms → Tail image book tab work m l us → l + 2 < layout.end
   tail-small h (constraints-from k q) = omega (arith, constraints-few)
   tail-small h (laid j q o t) = omega arith
 
@@ -83,11 +83,11 @@ module _ {image : List ℕ} {b : Book} {tab : ℕ → ℕ} (g : Ground image b t
   own-small (lits n e l) = (omega (arith, few), omega (arith, few))
   own-small (records z (record-at p q c k u)) = (omega arith, omega arith)
 
-  pub leads-small : {work : List ℕ} {m : ℕ} {a : Agenda} {ts : List Task} → m ≤ limits .atoms → Leads image b tab work m a ts → Small a
+  pub leads-small : {work : List ℕ} {m : ℕ} {a : Agenda} {ts : List Task} → m ≤ limits .atoms → Leads image book tab work m a ts → Small a
   leads-small h (linked e i t) = (i, omega arith, tail-small h t)
   leads-small h (more o t) = (own-small o .0, own-small o .1, tail-small h t)
 
-  pub free-small : {work : List ℕ} {m used : ℕ} {a : Agenda} {ts : List Task} {lss : List (List Lit)} → m ≤ limits .atoms → Free image b tab work m used a ts lss → Small a
+  pub free-small : {work : List ℕ} {m used : ℕ} {a : Agenda} {ts : List Task} {lss : List (List Lit)} → m ≤ limits .atoms → Free image book tab work m used a ts lss → Small a
   free-small h (older u a) = leads-small (omega arith) a
   free-small h (short a q) = leads-small h a
   free-small h (empty e i t) = (i, omega arith, tail-small h t)
@@ -108,30 +108,30 @@ pub record Down (image : List ℕ) (b : Book) (tab : ℕ → ℕ) (work v : List
   pub held : Held image b tab v k m used sheet due
   pub later : drop layout.end v ≡ drop layout.end work
 
-module _ {image : List ℕ} {b : Book} {tab : ℕ → ℕ} {work : List ℕ} {k m used : ℕ} {sheet : List Lit} {due : List Node} (run : Run) where
-  pub lay-down : {ts : List Task} {lss : List (List Lit)} (v : List ℕ) (l : ℕ) → (Short lss → ⊥) → m ≤ limits .atoms → run .marked ≡ entryAt m → Tabled tab work sheet → Trail work m sheet
-      → Held image b tab work k m used sheet due → Free image b tab work m used (run .agenda) ts lss → LaidDown work run v l → Down image b tab work v k m used sheet due l ts
+module _ {image : List ℕ} {book : Book} {tab : ℕ → ℕ} {work : List ℕ} {height marks used : ℕ} {sheet : List Lit} {due : List Node} (run : Run) where
+  pub lay-down : {ts : List Task} {lss : List (List Lit)} (v : List ℕ) (l : ℕ) → (Short lss → ⊥) → marks ≤ limits .atoms → run .marked ≡ entryAt marks → Tabled tab work sheet → Trail work marks sheet
+      → Held image book tab work height marks used sheet due → Free image book tab work marks used (run .agenda) ts lss → LaidDown work run v l → Down image book tab work v height marks used sheet due l ts
   lay-down {ts} {lss} v l ns few mk a t h f (nothing e i j) =
-      subst₂ (λ (u : List ℕ) (n : ℕ). Down image b tab work u k m used sheet due n ts) (sym i) (sym j)
-      (record { tail = go m f; area = a; trail = t; held = h; later = refl })
+      subst₂ (λ (u : List ℕ) (n : ℕ). Down image book tab work u height marks used sheet due n ts) (sym i) (sym j)
+      (record { tail = go marks f; area = a; trail = t; held = h; later = refl })
     where
-      linking : {m n : ℕ} {ts : List Task} → n ≤ m → Leads image b tab work n (run .agenda) ts → Tail image b tab work m (run .agenda .link) ts
-      linking q (linked x y z) = tail-more image b tab q z
+      linking : {marks n : ℕ} {ts : List Task} → n ≤ marks → Leads image book tab work n (run .agenda) ts → Tail image book tab work marks (run .agenda .link) ts
+      linking q (linked x y z) = tail-more image book tab q z
       linking q (more o z) = absurd (own-apart o e)
 
-      go : (m : ℕ) {ts : List Task} {lss : List (List Lit)} → Free image b tab work m used (run .agenda) ts lss → Tail image b tab work m (run .agenda .link) ts
-      go m (older {m = n} u g) = let up : n ≤ suc n = omega arith in linking up g
-      go m (short g q) = linking (le-refl m) g
-      go m (empty x y z) = z
-  lay-down {ts} {lss} v l ns few mk a t h f (cell e i j) = subst₂ (λ (u : List ℕ) (n : ℕ). Down image b tab work u k m used sheet due n ts) (sym i) (sym j) (go m mk few t h f ns)
+      go : (marks : ℕ) {ts : List Task} {lss : List (List Lit)} → Free image book tab work marks used (run .agenda) ts lss → Tail image book tab work marks (run .agenda .link) ts
+      go marks (older {m = n} u g) = let up : n ≤ suc n = omega arith in linking up g
+      go marks (short g q) = linking (le-refl marks) g
+      go marks (empty x y z) = z
+  lay-down {ts} {lss} v l ns few mk a t h f (cell e i j) = subst₂ (λ (u : List ℕ) (n : ℕ). Down image book tab work u height marks used sheet due n ts) (sym i) (sym j) (go marks mk few t h f ns)
     where
-      go : (m : ℕ) {ts : List Task} {lss : List (List Lit)} → run .marked ≡ entryAt m → m ≤ limits .atoms → Trail work m sheet → Held image b tab work k m used sheet due
-          → Free image b tab work m used (run .agenda) ts lss → (Short lss → ⊥)
-          → Down image b tab work (celled work (run .marked - layout.trailWidth) (run .agenda)) k m used sheet due (run .marked - layout.trailWidth) ts
-      go m mk few t h (short g q) ns = absurd (ns q)
-      go m mk few t h (empty x y z) ns = absurd (e x)
-      go m mk few t h (older u (linked x y z)) ns = absurd (e x)
-      go m mk few t h (older {m = n} u (more {ts = own} {us} o z)) ns =
+      go : (marks : ℕ) {ts : List Task} {lss : List (List Lit)} → run .marked ≡ entryAt marks → marks ≤ limits .atoms → Trail work marks sheet → Held image book tab work height marks used sheet due
+          → Free image book tab work marks used (run .agenda) ts lss → (Short lss → ⊥)
+          → Down image book tab work (celled work (run .marked - layout.trailWidth) (run .agenda)) height marks used sheet due (run .marked - layout.trailWidth) ts
+      go marks mk few t h (short g q) ns = absurd (ns q)
+      go marks mk few t h (empty x y z) ns = absurd (e x)
+      go marks mk few t h (older u (linked x y z)) ns = absurd (e x)
+      go marks mk few t h (older {m = n} u (more {ts = own} {us} o z)) ns =
           let i : ℕ = run .marked - layout.trailWidth in
           let v : List ℕ = celled work i (run .agenda) in
           let is : i ≡ entryAt n = omega arith in
@@ -143,11 +143,11 @@ module _ {image : List ℕ} {b : Book} {tab : ℕ → ℕ} {work : List ℕ} {k 
           let above : Same work v layout.frames layout.end = λ j p q. cell-other work i (run .agenda) j (λ x. omega (arith, x)) (λ x. omega (arith, x)) (λ x. omega (arith, x)) in
           record {
             tail =
-                subst (λ (x : ℕ). Tail image b tab v (suc n) x (own ++ us)) (sym is)
+                subst (λ (x : ℕ). Tail image book tab v (suc n) x (own ++ us)) (sym is)
                 (laid n (omega arith) (subst₂ (λ (x y : ℕ). Own image tab x y own) (sym e0) (sym e1) o)
-                (subst (λ (x : ℕ). Tail image b tab v n x us) (sym e2) (tail-same image b tab (λ j p q. below j (omega arith) q) z)));
+                (subst (λ (x : ℕ). Tail image book tab v n x us) (sym e2) (tail-same image book tab (λ j p q. below j (omega arith) q) z)));
             area = tabled-same (cell-length work i (run .agenda)) (λ j p q. below j p (omega arith)) a;
             trail = trail-same (λ j p. cell-other work i (run .agenda) (entryAt j + layout.cellWidth) (λ x. omega (arith, x)) (λ x. omega (arith, x)) (λ x. omega (arith, x))) t;
-            held = held-same image b tab (λ j p q. cell-other work i (run .agenda) j (λ x. omega (arith, x)) (λ x. omega (arith, x)) (λ x. omega (arith, x))) (λ j p q. below j (omega arith) (omega arith)) h;
+            held = held-same image book tab (λ j p q. cell-other work i (run .agenda) j (λ x. omega (arith, x)) (λ x. omega (arith, x)) (λ x. omega (arith, x))) (λ j p q. below j (omega arith) (omega arith)) h;
             later = cell-later work i (run .agenda) (omega arith);
           }

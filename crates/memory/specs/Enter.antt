@@ -27,64 +27,64 @@ unfolding litsAt
 length-lits-at image at zero = refl
 length-lits-at image at (suc n) = ap suc (length-lits-at image (at + 2) n)
 
-module _ {image : List ℕ} {b : Book} {work : List ℕ} {run : Run} {all : List Node} (h : Holds image b work run all) (st : run .state ≡ LIST) where
+module _ {image : List ℕ} {book : Book} {work : List ℕ} {run : Run} {all : List Node} (memory : Holds image book work run all) (st : run .state ≡ LIST) where
   pub record ListAhead : Type 0 where
     pub ts : List Task
     pub ls : List Lit
-    pub listed : Listed image (h .tab) (run .task) ls
-    pub free : Free image b (h .tab) work (h .marks) (h .used) (run .agenda) ts (ls ∷ [])
-    pub isFine : Fine b (h .height) (nodeOf (map want ls ++ ts) (h .sheet))
-    pub is : all ≡ nodeOf (map want ls ++ ts) (h .sheet) ∷ h .due
+    pub listed : Listed image (memory .tab) (run .task) ls
+    pub free : Free image book (memory .tab) work (memory .marks) (memory .used) (run .agenda) ts (ls ∷ [])
+    pub isFine : Fine book (memory .height) (nodeOf (map want ls ++ ts) (memory .sheet))
+    pub is : all ≡ nodeOf (map want ls ++ ts) (memory .sheet) ∷ memory .due
 
   list-ahead : ListAhead
-  list-ahead = go (in-hand h st) refl
+  list-ahead = go (in-hand memory st) refl
     where
-      go : {xs : List Node} → HandIn h LIST (run .task) (run .agenda) xs → all ≡ xs → ListAhead
+      go : {xs : List Node} → HandIn memory LIST (run .task) (run .agenda) xs → all ≡ xs → ListAhead
       go (list {ts} {ls} l a f) i = record { ts = ts; ls = ls; listed = l; free = a; isFine = f; is = i }
 
   pub enter-layable : Layable work run
   enter-layable =
       let v = list-ahead in
-      let few : h .marks ≤ limits .atoms = trail-few (h .trail) in
-      let sm = free-small (h .ground) few (v .free) in
-      record { low = omega (arith, h .marked); high = omega (arith, h .marked); long = h .area .long; at = sm .0; end = sm .1; link = omega (arith, sm .2) }
+      let few : memory .marks ≤ limits .atoms = trail-few (memory .trail) in
+      let sm = free-small (memory .ground) few (v .free) in
+      record { low = omega (arith, memory .marked); high = omega (arith, memory .marked); long = memory .area .long; at = sm .0; end = sm .1; link = omega (arith, sm .2) }
 
-  pub enter-literal : run .task < layout.literalNumbers → Holds image b work (inState run TASK) all
+  pub enter-literal : run .task < layout.literalNumbers → Holds image book work (inState run TASK) all
   enter-literal l = go (run .task) (list-ahead .ls) refl (list-ahead .listed) (list-ahead .free) (list-ahead .isFine) (list-ahead .is)
     where
-      go : (x : ℕ) (ls : List Lit) {ts : List Task} → run .task ≡ x → Listed image (h .tab) x ls → Free image b (h .tab) work (h .marks) (h .used) (run .agenda) ts (ls ∷ [])
-          → Fine b (h .height) (nodeOf (map want ls ++ ts) (h .sheet)) → all ≡ nodeOf (map want ls ++ ts) (h .sheet) ∷ h .due
-          → Holds image b work (inState run TASK) all
+      go : (x : ℕ) (ls : List Lit) {ts : List Task} → run .task ≡ x → Listed image (memory .tab) x ls → Free image book (memory .tab) work (memory .marks) (memory .used) (run .agenda) ts (ls ∷ [])
+          → Fine book (memory .height) (nodeOf (map want ls ++ ts) (memory .sheet)) → all ≡ nodeOf (map want ls ++ ts) (memory .sheet) ∷ memory .due
+          → Holds image book work (inState run TASK) all
       go x ls {ts} e (single q) a f i =
-          with-hand h (inState run TASK) refl refl refl
-          (subst (HandIn h TASK (run .task) (run .agenda)) (sym i)
-          (subst (λ (n : ℕ). HandIn h TASK (run .task) (run .agenda) (nodeOf (want (litOf n) ∷ ts) (h .sheet) ∷ h .due)) e
-          (literal l (free-leads image b (h .tab) a) (subst (λ (n : ℕ). Fine b (h .height) (nodeOf (want (litOf n) ∷ ts) (h .sheet))) (sym e) f))))
+          with-hand memory (inState run TASK) refl refl refl
+          (subst (HandIn memory TASK (run .task) (run .agenda)) (sym i)
+          (subst (λ (n : ℕ). HandIn memory TASK (run .task) (run .agenda) (nodeOf (want (litOf n) ∷ ts) (memory .sheet) ∷ memory .due)) e
+          (literal l (free-leads image book (memory .tab) a) (subst (λ (n : ℕ). Fine book (memory .height) (nodeOf (want (litOf n) ∷ ts) (memory .sheet))) (sym e) f))))
       go x ls e none a f i = absurd (omega arith)
       go x ls e (part p q z) a f i = absurd (omega arith)
 
-  pub enter-none : run .task ≡ layout.noList → Holds image b work (inState run AGENDA) all
+  pub enter-none : run .task ≡ layout.noList → Holds image book work (inState run AGENDA) all
   enter-none n = go (run .task) (list-ahead .ls) n (list-ahead .listed) (list-ahead .free) (list-ahead .isFine) (list-ahead .is)
     where
-      go : (x : ℕ) (ls : List Lit) {ts : List Task} → x ≡ layout.noList → Listed image (h .tab) x ls → Free image b (h .tab) work (h .marks) (h .used) (run .agenda) ts (ls ∷ [])
-          → Fine b (h .height) (nodeOf (map want ls ++ ts) (h .sheet)) → all ≡ nodeOf (map want ls ++ ts) (h .sheet) ∷ h .due
-          → Holds image b work (inState run AGENDA) all
+      go : (x : ℕ) (ls : List Lit) {ts : List Task} → x ≡ layout.noList → Listed image (memory .tab) x ls → Free image book (memory .tab) work (memory .marks) (memory .used) (run .agenda) ts (ls ∷ [])
+          → Fine book (memory .height) (nodeOf (map want ls ++ ts) (memory .sheet)) → all ≡ nodeOf (map want ls ++ ts) (memory .sheet) ∷ memory .due
+          → Holds image book work (inState run AGENDA) all
       go x ls e (single q) a f i = absurd (omega arith)
       go x ls {ts} e none a f i =
-          with-hand h (inState run AGENDA) refl refl refl (rw i (agenda (free-leads image b (h .tab) a) f))
+          with-hand memory (inState run AGENDA) refl refl refl (rw i (agenda (free-leads image book (memory .tab) a) f))
       go x ls e (part p q z) a f i = absurd (omega arith)
 
   pub record Entered (v : List ℕ) (q : Run) : Type 0 where
-    pub holds : Holds image b v q all
+    pub holds : Holds image book v q all
     pub later : drop layout.end v ≡ drop layout.end work
 
   pub enter-part : (v : List ℕ) (l : ℕ) → layout.literalNumbers ≤ run .task → (run .task ≡ layout.noList → ⊥) → LaidDown work run v l
       → Entered v (placing run (partAgenda (run .task) l))
   enter-part v l n o d = go (run .task) (list-ahead .ls) n o (list-ahead .listed) (list-ahead .free) (list-ahead .isFine) (list-ahead .is)
     where
-      go : (x : ℕ) (ls : List Lit) {ts : List Task} → layout.literalNumbers ≤ x → (x ≡ layout.noList → ⊥) → Listed image (h .tab) x ls
-          → Free image b (h .tab) work (h .marks) (h .used) (run .agenda) ts (ls ∷ [])
-          → Fine b (h .height) (nodeOf (map want ls ++ ts) (h .sheet)) → all ≡ nodeOf (map want ls ++ ts) (h .sheet) ∷ h .due
+      go : (x : ℕ) (ls : List Lit) {ts : List Task} → layout.literalNumbers ≤ x → (x ≡ layout.noList → ⊥) → Listed image (memory .tab) x ls
+          → Free image book (memory .tab) work (memory .marks) (memory .used) (run .agenda) ts (ls ∷ [])
+          → Fine book (memory .height) (nodeOf (map want ls ++ ts) (memory .sheet)) → all ≡ nodeOf (map want ls ++ ts) (memory .sheet) ∷ memory .due
           → Entered v (placing run (partAgenda x l))
       go x ls n o (single q) a f i = absurd (omega arith)
       go x ls n o none a f i = absurd (o refl)
@@ -92,27 +92,27 @@ module _ {image : List ℕ} {b : Book} {work : List ℕ} {run : Run} {all : List
       go x ls {ts} n o (part {from = from} {n = suc c} p q z) a f i =
           let long : length (litsAt image from (suc c)) ≡ suc c = length-lits-at image from (suc c) in
           let many : Short (litsAt image from (suc c) ∷ []) → ⊥ = λ k. let one : length (litsAt image from (suc c)) ≤ 1 = every-first k in omega arith in
-          let dn = lay-down run v l many (trail-few (h .trail)) (h .marked) (h .area) (h .trail) (h .held) a d in
+          let dn = lay-down run v l many (trail-few (memory .trail)) (memory .marked) (memory .area) (memory .trail) (memory .held) a d in
           let start : (from + layout.places * suc c) % layout.places ≡ from = omega arith in
           let count : (from + layout.places * suc c) / layout.places ≡ suc c = omega arith in
           let end : (from + layout.places * suc c) % layout.places + 2 * ((from + layout.places * suc c) / layout.places) ≡ from + 2 * suc c = omega arith in
           record {
             holds =
-                subst₂ (λ (x y : ℕ). Holds image b v (placing run (record { at = x; end = y; link = l })) all) (sym start) (sym end)
+                subst₂ (λ (x y : ℕ). Holds image book v (placing run (record { at = x; end = y; link = l })) all) (sym start) (sym end)
                 (record {
-                  tab = h .tab;
-                  height = h .height;
-                  marks = h .marks;
-                  used = h .used;
-                  sheet = h .sheet;
-                  due = h .due;
-                  ground = h .ground;
+                  tab = memory .tab;
+                  height = memory .height;
+                  marks = memory .marks;
+                  used = memory .used;
+                  sheet = memory .sheet;
+                  due = memory .due;
+                  ground = memory .ground;
                   area = dn .area;
                   trail = dn .trail;
                   held = dn .held;
-                  chosen = h .chosen;
-                  marked = h .marked;
-                  top = h .top;
+                  chosen = memory .chosen;
+                  marked = memory .marked;
+                  top = memory .top;
                   hand = rw i (agenda (more (lits c refl z) (dn .tail)) f);
                 });
             later = dn .later;

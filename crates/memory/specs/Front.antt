@@ -41,66 +41,66 @@ drop-next : {A : Type 0} (k : ℕ) (l : List A) (a : A) (t : List A) → drop k 
 drop-next k l a t e =
     (sym (drop-drop 1 k l) ∙ ap (drop 1) e, omega (arith, length-drop k l, ap length e))
 
-module _ {image : List ℕ} {b : Book} {tab : ℕ → ℕ} {work : List ℕ} {sheet : List Lit} (m : ℕ) (g : Ground image b tab) (tabled : Tabled tab work sheet) where
-  constraints-few : length (b .constraints) ≤ limits .constraints
-  constraints-few = within image b (g .book) .constraints
+module _ {image : List ℕ} {book : Book} {tab : ℕ → ℕ} {work : List ℕ} {sheet : List Lit} (marks : ℕ) (ground : Ground image book tab) (tabled : Tabled tab work sheet) where
+  constraints-few : length (book .constraints) ≤ limits .constraints
+  constraints-few = within image book (ground .book) .constraints
 
-  open-constraints : (k : ℕ) → k ≤ length (b .constraints)
-      → Open image b tab work m (cellAgenda work (layout.cellFrom k)) (map keep (drop k (b .constraints)))
-  open-constraints k h = go (drop k (b .constraints)) refl
+  open-constraints : (k : ℕ) → k ≤ length (book .constraints)
+      → Open image book tab work marks (cellAgenda work (layout.cellFrom k)) (map keep (drop k (book .constraints)))
+  open-constraints k h = go (drop k (book .constraints)) refl
     where
       e0 : getD work (layout.cellFrom k) 0 ≡ layout.constraintRecord k
-      e0 = tabled .tabled (layout.cellFrom k) (omega arith) (omega (arith, constraints-few)) ∙ g .cell k h .0
+      e0 = tabled .tabled (layout.cellFrom k) (omega arith) (omega (arith, constraints-few)) ∙ ground .cell k h .0
 
       e1 : getD work (layout.cellFrom k + 1) 0 ≡ 0
-      e1 = tabled .tabled (layout.cellFrom k + 1) (omega arith) (omega (arith, constraints-few)) ∙ g .cell k h .1
+      e1 = tabled .tabled (layout.cellFrom k + 1) (omega arith) (omega (arith, constraints-few)) ∙ ground .cell k h .1
 
       e2 : getD work (layout.cellFrom k + 2) 0 ≡ layout.cellFrom (k + 1)
-      e2 = tabled .tabled (layout.cellFrom k + 2) (omega arith) (omega (arith, constraints-few)) ∙ g .cell k h .2
+      e2 = tabled .tabled (layout.cellFrom k + 2) (omega arith) (omega (arith, constraints-few)) ∙ ground .cell k h .2
 
-      moved : {ts : List Task} → Open image b tab work m (recordAgenda (layout.constraintRecord k) (layout.cellFrom (k + 1))) ts → Open image b tab work m (cellAgenda work (layout.cellFrom k)) ts
-      moved {ts} o = subst (λ (c : Agenda). Open image b tab work m c ts) (sym (agenda-is e0 e1 e2)) o
+      moved : {ts : List Task} → Open image book tab work marks (recordAgenda (layout.constraintRecord k) (layout.cellFrom (k + 1))) ts → Open image book tab work marks (cellAgenda work (layout.cellFrom k)) ts
+      moved {ts} o = subst (λ (c : Agenda). Open image book tab work marks c ts) (sym (agenda-is e0 e1 e2)) o
 
-      go : (cs : List Constraint) → drop k (b .constraints) ≡ cs
-          → Open image b tab work m (cellAgenda work (layout.cellFrom k)) (map keep cs)
+      go : (cs : List Constraint) → drop k (book .constraints) ≡ cs
+          → Open image book tab work marks (cellAgenda work (layout.cellFrom k)) (map keep cs)
       go [] e =
-          let all : k ≡ length (b .constraints) = omega (arith, drop-empty k (b .constraints) e) in
-          moved (over refl (omega arith) (omega (arith, constraints-few)) (ap (λ (n : ℕ). tab (layout.constraintRecord n)) all ∙ g .last))
+          let all : k ≡ length (book .constraints) = omega (arith, drop-empty k (book .constraints) e) in
+          moved (over refl (omega arith) (omega (arith, constraints-few)) (ap (λ (n : ℕ). tab (layout.constraintRecord n)) all ∙ ground .last))
       go (c ∷ cs) e =
-          let n = drop-next k (b .constraints) c cs e in
+          let n = drop-next k (book .constraints) c cs e in
           moved
-          (tasks (records refl (g .constraint k c cs e))
-          (subst (λ (l : List Constraint). Tail image b tab work m (layout.cellFrom (k + 1)) (map keep l)) (n .0) (constraints-from (k + 1) (omega (arith, n .1)))))
+          (tasks (records refl (ground .constraint k c cs e))
+          (subst (λ (l : List Constraint). Tail image book tab work marks (layout.cellFrom (k + 1)) (map keep l)) (n .0) (constraints-from (k + 1) (omega (arith, n .1)))))
 
-  open-tail : {link : ℕ} {us : List Task} → Tail image b tab work m link us → Open image b tab work m (cellAgenda work link) us
+  open-tail : {link : ℕ} {us : List Task} → Tail image book tab work marks link us → Open image book tab work marks (cellAgenda work link) us
   open-tail (constraints-from k h) = open-constraints k h
   open-tail (laid {ts = ts} {us} j h o t) =
       let here : entryAt j + 0 ≡ entryAt j = omega arith in
-      let up : j ≤ m = omega arith in
-      subst (λ (n : ℕ). Open image b tab work m (record { at = getD work n 0; end = entry work j 1; link = entry work j 2 }) (ts ++ us)) here (tasks o (tail-more image b tab up t))
+      let up : j ≤ marks = omega arith in
+      subst (λ (n : ℕ). Open image book tab work marks (record { at = getD work n 0; end = entry work j 1; link = entry work j 2 }) (ts ++ us)) here (tasks o (tail-more image book tab up t))
 
-  refilled-open : (run q : Run) {ts : List Task} → Leads image b tab work m (run .agenda) ts → Refilled work run q → Open image b tab work m (q .agenda) ts
-  refilled-open run q {ts} (linked e i t) (from-cell p f) = subst (λ (x : Run). Open image b tab work m (x .agenda) ts) (sym f) (open-tail t)
+  refilled-open : (run q : Run) {ts : List Task} → Leads image book tab work marks (run .agenda) ts → Refilled work run q → Open image book tab work marks (q .agenda) ts
+  refilled-open run q {ts} (linked e i t) (from-cell p f) = subst (λ (x : Run). Open image book tab work marks (x .agenda) ts) (sym f) (open-tail t)
   refilled-open run q (more o t) (from-cell p f) = absurd (own-apart o p)
   refilled-open run q (linked e i t) (as-is p f) = absurd (p e)
-  refilled-open run q {ts} (more o t) (as-is p f) = subst (λ (x : Run). Open image b tab work m (x .agenda) ts) (sym f) (tasks o t)
+  refilled-open run q {ts} (more o t) (as-is p f) = subst (λ (x : Run). Open image book tab work marks (x .agenda) ts) (sym f) (tasks o t)
 
-  open-safe : {a : Agenda} {ts : List Task} → Open image b tab work m a ts → (a .at < a .end → a .at + 2 ≤ length image) × (a .at + 1 < layout.end)
-  open-safe (tasks (lits n e l) t) = (λ h. omega arith, omega (arith, longest-image image b (g .book)))
+  open-safe : {a : Agenda} {ts : List Task} → Open image book tab work marks a ts → (a .at < a .end → a .at + 2 ≤ length image) × (a .at + 1 < layout.end)
+  open-safe (tasks (lits n e l) t) = (λ h. omega arith, omega (arith, longest-image image book (ground .book)))
   open-safe (tasks (records z (Records.record-at p q c k u)) t) = (λ h. absurd (omega arith), omega arith)
   open-safe (over e p q c) = (λ h. absurd (omega arith), omega arith)
 
   record FirstLiteral (a : Agenda) (ts : List Task) : Type 0 where
     rest : List Task
     is : ts ≡ want (litOf (fieldAt image (a .at))) ∷ rest
-    behind : Leads image b tab work m (record { at = a .at + 2; end = a .end; link = a .link }) rest
+    behind : Leads image book tab work marks (record { at = a .at + 2; end = a .end; link = a .link }) rest
 
-  open-lit : {a : Agenda} {ts : List Task} → Open image b tab work m a ts → a .at < a .end → FirstLiteral a ts
+  open-lit : {a : Agenda} {ts : List Task} → Open image book tab work marks a ts → a .at < a .end → FirstLiteral a ts
   unfolding litsAt
   open-lit (tasks {at = at} {end} {us = us} (lits zero e l) t) h = record {
     rest = us;
     is = refl;
-    behind = let there : at + 2 ≡ end = omega arith in let low : at + 2 < layout.places = omega (arith, longest-image image b (g .book)) in linked there low t;
+    behind = let there : at + 2 ≡ end = omega arith in let low : at + 2 < layout.places = omega (arith, longest-image image book (ground .book)) in linked there low t;
   }
   open-lit (tasks {at = at} {end} {us = us} (lits (suc n) e l) t) h = record {
     rest = map want (litsAt image (at + 2) (suc n)) ++ us;
@@ -112,16 +112,16 @@ module _ {image : List ℕ} {b : Book} {tab : ℕ → ℕ} {work : List ℕ} {sh
 
   data FirstRecord (a : Agenda) (ts : List Task) : Type 0 where
     picks : (lss : List (List Lit)) (rest : List Task) → ts ≡ pick lss ∷ rest → layout.clauseRecords ≤ a .at → a .at + 1 < layout.cells → Chain image tab (tab (a .at)) lss
-        → Free image b tab work m m (record { at = tab (a .at + 1); end = a .end; link = a .link }) rest lss → FirstRecord a ts
+        → Free image book tab work marks marks (record { at = tab (a .at + 1); end = a .end; link = a .link }) rest lss → FirstRecord a ts
     ends : ts ≡ [] → layout.clauseRecords ≤ a .at → a .at + 1 < layout.cells → tab (a .at) ≡ layout.noTask → FirstRecord a ts
 
-  behind-record : {n end link : ℕ} {ts us : List Task} {lss : List (List Lit)} → end ≡ layout.noEnd → Records image tab n ts → Short lss ⊎ (n ≡ 0) → Tail image b tab work m link us
-      → Free image b tab work m m (record { at = n; end = end; link = link }) (ts ++ us) lss
+  behind-record : {n end link : ℕ} {ts us : List Task} {lss : List (List Lit)} → end ≡ layout.noEnd → Records image tab n ts → Short lss ⊎ (n ≡ 0) → Tail image book tab work marks link us
+      → Free image book tab work marks marks (record { at = n; end = end; link = link }) (ts ++ us) lss
   behind-record z Records.end k t = let low : 0 < layout.places = omega arith in empty (sym z) low t
   behind-record z (Records.record-at p q c i u) (inl k) t = short (more (records z (Records.record-at p q c i u)) t) k
   behind-record z (Records.record-at p q c i u) (inr k) t = absurd (omega arith)
 
-  open-record : {a : Agenda} {ts : List Task} → Open image b tab work m a ts → a .end ≤ a .at → FirstRecord a ts
+  open-record : {a : Agenda} {ts : List Task} → Open image book tab work marks a ts → a .end ≤ a .at → FirstRecord a ts
   open-record (tasks (lits n e l) t) h = absurd (omega arith)
   open-record (tasks {us = us} (records z (Records.record-at {lss = lss} {ts} p q c k u)) t) h = picks lss (ts ++ us) refl p q c (behind-record z u k t)
   open-record (over e p q c) h = ends refl p q c
@@ -135,59 +135,59 @@ refilled-keeps : (work : List ℕ) (run q : Run) → Refilled work run q → (q 
 refilled-keeps work run q (from-cell e i) = rw i (refl, refl, refl, refl, refl)
 refilled-keeps work run q (as-is e i) = rw i (refl, refl, refl, refl, refl)
 
-module _ {image : List ℕ} {b : Book} {work : List ℕ} {run q : Run} {all : List Node} (h : Holds image b work run all) (st : run .state ≡ AGENDA) (f : Refilled work run q) where
+module _ {image : List ℕ} {book : Book} {work : List ℕ} {run run′ : Run} {all : List Node} (memory : Holds image book work run all) (st : run .state ≡ AGENDA) (refilled : Refilled work run run′) where
   record Opened : Type 0 where
     ts : List Task
-    opened : Open image b (h .tab) work (h .marks) (q .agenda) ts
-    isFine : Fine b (h .height) (nodeOf ts (h .sheet))
-    is : all ≡ nodeOf ts (h .sheet) ∷ h .due
+    opened : Open image book (memory .tab) work (memory .marks) (run′ .agenda) ts
+    isFine : Fine book (memory .height) (nodeOf ts (memory .sheet))
+    is : all ≡ nodeOf ts (memory .sheet) ∷ memory .due
 
   opening : Opened
-  opening = go (in-hand h st) refl
+  opening = go (in-hand memory st) refl
     where
-      go : {xs : List Node} → HandIn h AGENDA (run .task) (run .agenda) xs → all ≡ xs → Opened
-      go (agenda {ts} a fn) i = record { ts = ts; opened = refilled-open (h .marks) (h .ground) (h .area) run q a f; isFine = fn; is = i }
+      go : {xs : List Node} → HandIn memory AGENDA (run .task) (run .agenda) xs → all ≡ xs → Opened
+      go (agenda {ts} a fn) i = record { ts = ts; opened = refilled-open (memory .marks) (memory .ground) (memory .area) run run′ a refilled; isFine = fn; is = i }
 
-  front-safe : (q .agenda .at < q .agenda .end → q .agenda .at + 2 ≤ length image) × (q .agenda .at + 1 < layout.end) × (layout.Long work)
-  front-safe = let o = open-safe (h .marks) (h .ground) (h .area) (opening .opened) in (o .0, o .1, h .area .long)
+  front-safe : (run′ .agenda .at < run′ .agenda .end → run′ .agenda .at + 2 ≤ length image) × (run′ .agenda .at + 1 < layout.end) × (layout.Long work)
+  front-safe = let o = open-safe (memory .marks) (memory .ground) (memory .area) (opening .opened) in (o .0, o .1, memory .area .long)
 
-  keeps : (q .set ≡ run .set) × (q .marked ≡ run .marked) × (q .top ≡ run .top) × (q .nodes ≡ run .nodes) × (q .count ≡ run .count)
-  keeps = refilled-keeps work run q f
+  keeps : (run′ .set ≡ run .set) × (run′ .marked ≡ run .marked) × (run′ .top ≡ run .top) × (run′ .nodes ≡ run .nodes) × (run′ .count ≡ run .count)
+  keeps = refilled-keeps work run run′ refilled
 
-  lit-holds : q .agenda .at < q .agenda .end → Holds image b work (taking q (fieldAt image (q .agenda .at)) (q .agenda .at + 2)) all
+  lit-holds : run′ .agenda .at < run′ .agenda .end → Holds image book work (taking run′ (fieldAt image (run′ .agenda .at)) (run′ .agenda .at + 2)) all
   lit-holds l =
       let o = opening in
-      let t = open-lit (h .marks) (h .ground) (h .area) (o .opened) l in
-      let fn : Fine b (h .height) (nodeOf (want (litOf (fieldAt image (q .agenda .at))) ∷ t .rest) (h .sheet)) =
-      subst (λ (ts : List Task). Fine b (h .height) (nodeOf ts (h .sheet))) (t .is) (o .isFine) in
-      let small : fieldAt image (q .agenda .at) < layout.literalNumbers = omega (arith, every-first (fn .1), within image b (h .ground .book) .atoms) in
-      with-hand h (taking q (fieldAt image (q .agenda .at)) (q .agenda .at + 2)) (keeps .0) (keeps .1) (keeps .2)
-      (subst (HandOf h (taking q (fieldAt image (q .agenda .at)) (q .agenda .at + 2)))
-      (sym (o .is ∙ ap (λ (ts : List Task). nodeOf ts (h .sheet) ∷ h .due) (t .is)))
+      let t = open-lit (memory .marks) (memory .ground) (memory .area) (o .opened) l in
+      let fn : Fine book (memory .height) (nodeOf (want (litOf (fieldAt image (run′ .agenda .at))) ∷ t .rest) (memory .sheet)) =
+      subst (λ (ts : List Task). Fine book (memory .height) (nodeOf ts (memory .sheet))) (t .is) (o .isFine) in
+      let small : fieldAt image (run′ .agenda .at) < layout.literalNumbers = omega (arith, every-first (fn .1), within image book (memory .ground .book) .atoms) in
+      with-hand memory (taking run′ (fieldAt image (run′ .agenda .at)) (run′ .agenda .at + 2)) (keeps .0) (keeps .1) (keeps .2)
+      (subst (HandOf memory (taking run′ (fieldAt image (run′ .agenda .at)) (run′ .agenda .at + 2)))
+      (sym (o .is ∙ ap (λ (ts : List Task). nodeOf ts (memory .sheet) ∷ memory .due) (t .is)))
       (literal small (t .behind) fn))
 
-  record-holds : q .agenda .end ≤ q .agenda .at → Holds image b work (taking q (q .agenda .at) (h .tab (q .agenda .at + 1))) all
-  record-holds l = go (open-record (h .marks) (h .ground) (h .area) (opening .opened) l)
+  record-holds : run′ .agenda .end ≤ run′ .agenda .at → Holds image book work (taking run′ (run′ .agenda .at) (memory .tab (run′ .agenda .at + 1))) all
+  record-holds l = go (open-record (memory .marks) (memory .ground) (memory .area) (opening .opened) l)
     where
-      go : FirstRecord (h .marks) (h .ground) (h .area) (q .agenda) (opening .ts) → Holds image b work (taking q (q .agenda .at) (h .tab (q .agenda .at + 1))) all
+      go : FirstRecord (memory .marks) (memory .ground) (memory .area) (run′ .agenda) (opening .ts) → Holds image book work (taking run′ (run′ .agenda .at) (memory .tab (run′ .agenda .at + 1))) all
       go (picks lss rest i p k c fr) =
-          with-hand h (taking q (q .agenda .at) (h .tab (q .agenda .at + 1))) (keeps .0) (keeps .1) (keeps .2)
-          (subst (HandOf h (taking q (q .agenda .at) (h .tab (q .agenda .at + 1))))
-          (sym (opening .is ∙ ap (λ (ts : List Task). nodeOf ts (h .sheet) ∷ h .due) i))
-          (record-at p k c fr (subst (λ (ts : List Task). Fine b (h .height) (nodeOf ts (h .sheet))) i (opening .isFine))))
+          with-hand memory (taking run′ (run′ .agenda .at) (memory .tab (run′ .agenda .at + 1))) (keeps .0) (keeps .1) (keeps .2)
+          (subst (HandOf memory (taking run′ (run′ .agenda .at) (memory .tab (run′ .agenda .at + 1))))
+          (sym (opening .is ∙ ap (λ (ts : List Task). nodeOf ts (memory .sheet) ∷ memory .due) i))
+          (record-at p k c fr (subst (λ (ts : List Task). Fine book (memory .height) (nodeOf ts (memory .sheet))) i (opening .isFine))))
       go (ends i p k c) =
-          with-hand h (taking q (q .agenda .at) (h .tab (q .agenda .at + 1))) (keeps .0) (keeps .1) (keeps .2)
-          (subst (HandOf h (taking q (q .agenda .at) (h .tab (q .agenda .at + 1))))
-          (sym (opening .is ∙ ap (λ (ts : List Task). nodeOf ts (h .sheet) ∷ h .due) i))
+          with-hand memory (taking run′ (run′ .agenda .at) (memory .tab (run′ .agenda .at + 1))) (keeps .0) (keeps .1) (keeps .2)
+          (subst (HandOf memory (taking run′ (run′ .agenda .at) (memory .tab (run′ .agenda .at + 1))))
+          (sym (opening .is ∙ ap (λ (ts : List Task). nodeOf ts (memory .sheet) ∷ memory .due) i))
           (last p (omega arith) c))
 
   -- the next record's number stands in the tables
-  next-record : q .agenda .end ≤ q .agenda .at → getD work (q .agenda .at + 1) 0 ≡ h .tab (q .agenda .at + 1)
-  next-record l = go (open-record (h .marks) (h .ground) (h .area) (opening .opened) l)
+  next-record : run′ .agenda .end ≤ run′ .agenda .at → getD work (run′ .agenda .at + 1) 0 ≡ memory .tab (run′ .agenda .at + 1)
+  next-record l = go (open-record (memory .marks) (memory .ground) (memory .area) (opening .opened) l)
     where
-      go : FirstRecord (h .marks) (h .ground) (h .area) (q .agenda) (opening .ts) → getD work (q .agenda .at + 1) 0 ≡ h .tab (q .agenda .at + 1)
-      go (picks lss rest i p k c fr) = h .area .tabled (q .agenda .at + 1) (omega arith) (omega arith)
-      go (ends i p k c) = h .area .tabled (q .agenda .at + 1) (omega arith) (omega arith)
+      go : FirstRecord (memory .marks) (memory .ground) (memory .area) (run′ .agenda) (opening .ts) → getD work (run′ .agenda .at + 1) 0 ≡ memory .tab (run′ .agenda .at + 1)
+      go (picks lss rest i p k c fr) = memory .area .tabled (run′ .agenda .at + 1) (omega arith) (omega arith)
+      go (ends i p k c) = memory .area .tabled (run′ .agenda .at + 1) (omega arith) (omega arith)
 
 module _ (image work : List ℕ) (run : Run) (pre : Standing image work run AGENDA) where
   -- an agenda's link leads into the work area
@@ -197,30 +197,30 @@ module _ (image work : List ℕ) (run : Run) (pre : Standing image work run AGEN
       go : {xs : List Node} → HandIn (pre .holds) AGENDA (run .task) (run .agenda) xs → (run .agenda .link + 2 < length work) × (run .agenda .link < layout.end)
       go (agenda a f) = let sm = leads-small (pre .holds .ground) (trail-few (pre .holds .trail)) a in (omega (arith, sm .2, pre .holds .area .long), omega (arith, sm .2))
 
-  module _ (q : Run) (f : Refilled work run q) where
-    pub open-places : (q .agenda .at < q .agenda .end → q .agenda .at + 2 ≤ length image) × (q .agenda .at + 1 < layout.end) × (layout.Long work)
-    open-places = front-safe (pre .holds) (pre .state) f
+  module _ (run′ : Run) (refilled : Refilled work run run′) where
+    pub open-places : (run′ .agenda .at < run′ .agenda .end → run′ .agenda .at + 2 ≤ length image) × (run′ .agenda .at + 1 < layout.end) × (layout.Long work)
+    open-places = front-safe (pre .holds) (pre .state) refilled
 
-    pub front-literal : (o : Run) (x : ℕ) → q .agenda .at < q .agenda .end → x ≡ fieldAt image (q .agenda .at) → o ≡ taking q x (q .agenda .at + 2) → Moved image work run work o TASK
+    pub front-literal : (o : Run) (x : ℕ) → run′ .agenda .at < run′ .agenda .end → x ≡ fieldAt image (run′ .agenda .at) → o ≡ taking run′ x (run′ .agenda .at + 2) → Moved image work run work o TASK
     front-literal o x l i e =
-        subst (λ (p : Run). Moved image work run work p TASK) (sym (e ∙ ap (λ (y : ℕ). taking q y (q .agenda .at + 2)) i))
+        subst (λ (p : Run). Moved image work run work p TASK) (sym (e ∙ ap (λ (y : ℕ). taking run′ y (run′ .agenda .at + 2)) i))
         (record {
-          holds = λ b all h. lit-holds h (pre .state) f l;
+          holds = λ b all h. lit-holds h (pre .state) refilled l;
           state = omega arith;
-          nodes = refilled-keeps work run q f .3;
-          count = refilled-keeps work run q f .4;
+          nodes = refilled-keeps work run run′ refilled .3;
+          count = refilled-keeps work run run′ refilled .4;
           later = refl;
         })
 
-    pub front-record : (o : Run) (y : ℕ) → q .agenda .end ≤ q .agenda .at → y ≡ getD work (q .agenda .at + 1) 0 → o ≡ taking q (q .agenda .at) y → Moved image work run work o TASK
+    pub front-record : (o : Run) (y : ℕ) → run′ .agenda .end ≤ run′ .agenda .at → y ≡ getD work (run′ .agenda .at + 1) 0 → o ≡ taking run′ (run′ .agenda .at) y → Moved image work run work o TASK
     front-record o y l i e =
-        subst (λ (p : Run). Moved image work run work p TASK) (sym (e ∙ ap (λ (z : ℕ). taking q (q .agenda .at) z) i))
+        subst (λ (p : Run). Moved image work run work p TASK) (sym (e ∙ ap (λ (z : ℕ). taking run′ (run′ .agenda .at) z) i))
         (record {
           holds = λ b all h.
-              subst (λ (z : ℕ). Holds image b work (taking q (q .agenda .at) z) all) (sym (next-record h (pre .state) f l))
-              (record-holds h (pre .state) f l);
+              subst (λ (z : ℕ). Holds image b work (taking run′ (run′ .agenda .at) z) all) (sym (next-record h (pre .state) refilled l))
+              (record-holds h (pre .state) refilled l);
           state = omega arith;
-          nodes = refilled-keeps work run q f .3;
-          count = refilled-keeps work run q f .4;
+          nodes = refilled-keeps work run run′ refilled .3;
+          count = refilled-keeps work run run′ refilled .4;
           later = refl;
         })

@@ -53,10 +53,10 @@ byWays us sheet lss = map (λ (ls : List Lit). nodeOf (map want ls ++ us) sheet)
 abbrev pub Short : List (List Lit) → Type 0
 Short lss = Every (λ (ls : List Lit). length ls ≤ 1) lss
 
-module _ (image : List ℕ) (b : Book) (tab : ℕ → ℕ) (work : List ℕ) where
+module _ (image : List ℕ) (book : Book) (tab : ℕ → ℕ) (work : List ℕ) where
   -- what the cell at a link leads to: the constraints from k on, or an agenda laid down in one of the first m entries of the trail
   pub data Tail : ℕ → ℕ → List Task → Type 0 where
-    constraints-from : {m : ℕ} (k : ℕ) → k ≤ length (b .constraints) → Tail m (layout.cellFrom k) (map keep (drop k (b .constraints)))
+    constraints-from : {m : ℕ} (k : ℕ) → k ≤ length (book .constraints) → Tail m (layout.cellFrom k) (map keep (drop k (book .constraints)))
     laid : {m : ℕ} {ts us : List Task} (j : ℕ) → j < m → Own image tab (entry work j 0) (entry work j 1) ts → Tail j (entry work j 2) us → Tail m (entryAt j) (ts ++ us)
 
   -- the tasks of an agenda: its own, if any, and those that its link leads to
@@ -74,7 +74,7 @@ module _ (image : List ℕ) (b : Book) (tab : ℕ → ℕ) (work : List ℕ) whe
   -- frame k holds these ways, with this agenda behind them
   pub record Frame (k m : ℕ) (sheet : List Lit) (lss : List (List Lit)) : Type 0 where
     pub marked : frameMarks work k ≡ entryAt m
-    pub set : frameSet work k ≡ assumed b sheet
+    pub set : frameSet work k ≡ assumed book sheet
     pub ways : Chain image tab (frameWay work k) lss
 
   -- k frames hold these nodes due, and use the first `used` of m entries, which have this sheet
@@ -85,32 +85,32 @@ module _ (image : List ℕ) (b : Book) (tab : ℕ → ℕ) (work : List ℕ) whe
     -- pushed as a literal was marked: the agenda behind is older than its entry
     proving : {k m used : ℕ} {sheet : List Lit} {due : List Node} {rest : List Task} {ls : List Lit} {lss : List (List Lit)}
         → Frame k (suc m) sheet (ls ∷ lss) → Leads m (frameAgenda work k) rest
-        → Every (Fine b (suc k)) (byWays rest sheet (ls ∷ lss))
+        → Every (Fine book (suc k)) (byWays rest sheet (ls ∷ lss))
         → used ≤ m → Held k (suc m) used sheet due → Held (suc k) (suc m) m sheet (byWays rest sheet (ls ∷ lss) ++ due)
     -- pushed at a break or a constraint
     picking : {k m used : ℕ} {sheet : List Lit} {due : List Node} {rest : List Task} {ls : List Lit} {lss : List (List Lit)}
         → Frame k m sheet (ls ∷ lss) → Free m m (frameAgenda work k) rest (ls ∷ lss)
-        → Every (Fine b (suc k)) (byWays rest sheet (ls ∷ lss))
+        → Every (Fine book (suc k)) (byWays rest sheet (ls ∷ lss))
         → Held k m used sheet due → Held (suc k) m m sheet (byWays rest sheet (ls ∷ lss) ++ due)
 
   -- ---- the run: what is due, before what the frames hold, by its state, its task and its agenda
 
   pub data Hand (k m used : ℕ) (sheet : List Lit) (due : List Node) (task : ℕ) (a : Agenda) : ℕ → List Node → Type 0 where
     -- a literal in hand, a record, or the end of all tasks
-    literal : {ts : List Task} → task < layout.literalNumbers → Leads m a ts → Fine b k (nodeOf (want (litOf task) ∷ ts) sheet)
+    literal : {ts : List Task} → task < layout.literalNumbers → Leads m a ts → Fine book k (nodeOf (want (litOf task) ∷ ts) sheet)
         → Hand k m used sheet due task a TASK (nodeOf (want (litOf task) ∷ ts) sheet ∷ due)
     record-at : {lss : List (List Lit)} {ts : List Task} → layout.clauseRecords ≤ task → task + 1 < layout.cells → Chain image tab (tab task) lss → Free m m a ts lss
-        → Fine b k (nodeOf (pick lss ∷ ts) sheet)
+        → Fine book k (nodeOf (pick lss ∷ ts) sheet)
         → Hand k m used sheet due task a TASK (nodeOf (pick lss ∷ ts) sheet ∷ due)
     last : layout.clauseRecords ≤ task → task < layout.cells → tab task ≡ layout.noTask → Hand k m used sheet due task a TASK (nodeOf [] sheet ∷ due)
     -- the agenda in hand
-    agenda : {ts : List Task} → Leads m a ts → Fine b k (nodeOf ts sheet)
+    agenda : {ts : List Task} → Leads m a ts → Fine book k (nodeOf ts sheet)
         → Hand k m used sheet due task a AGENDA (nodeOf ts sheet ∷ due)
     -- a list to be entered, and ways to be taken
-    list : {ts : List Task} {ls : List Lit} → Listed image tab task ls → Free m used a ts (ls ∷ []) → Fine b k (nodeOf (map want ls ++ ts) sheet)
+    list : {ts : List Task} {ls : List Lit} → Listed image tab task ls → Free m used a ts (ls ∷ []) → Fine book k (nodeOf (map want ls ++ ts) sheet)
         → Hand k m used sheet due task a LIST (nodeOf (map want ls ++ ts) sheet ∷ due)
     way : {ts : List Task} {ls : List Lit} {lss : List (List Lit)} → Chain image tab task (ls ∷ lss) → Free m used a ts (ls ∷ lss)
-        → Every (Fine b (suc k)) (byWays ts sheet (ls ∷ lss)) → Hand k m used sheet due task a WAY (byWays ts sheet (ls ∷ lss) ++ due)
+        → Every (Fine book (suc k)) (byWays ts sheet (ls ∷ lss)) → Hand k m used sheet due task a WAY (byWays ts sheet (ls ∷ lss) ++ due)
     -- nothing
     failed : Hand k m used sheet due task a FAILED due
 
@@ -131,33 +131,33 @@ pub record Holds (image : List ℕ) (b : Book) (work : List ℕ) (run : Run) (al
   pub top : run .top ≡ frameAt height
   pub hand : Hand image b tab work height marks used sheet due (run .task) (run .agenda) (run .state) all
 
--- over the memory of h: a hand with this task and agenda in state n, and that of a run
-module _ {image : List ℕ} {b : Book} {work : List ℕ} {run : Run} {all : List Node} (h : Holds image b work run all) where
+-- over this memory: a hand with this task and agenda in state n, and that of a run
+module _ {image : List ℕ} {book : Book} {work : List ℕ} {run : Run} {all : List Node} (memory : Holds image book work run all) where
   abbrev pub HandIn : ℕ → ℕ → Agenda → List Node → Type 0
-  HandIn n task a xs = Hand image b (h .tab) work (h .height) (h .marks) (h .used) (h .sheet) (h .due) task a n xs
+  HandIn n task a xs = Hand image book (memory .tab) work (memory .height) (memory .marks) (memory .used) (memory .sheet) (memory .due) task a n xs
 
   abbrev pub HandOf : Run → List Node → Type 0
   HandOf q xs = HandIn (q .state) (q .task) (q .agenda) xs
 
   -- what the machine has in hand in a state: what it is, is then read off the constructors of that state
   pub in-hand : {n : ℕ} → run .state ≡ n → HandIn n (run .task) (run .agenda) all
-  in-hand e = subst (λ (m : ℕ). HandIn m (run .task) (run .agenda) all) e (h .hand)
+  in-hand e = subst (λ (m : ℕ). HandIn m (run .task) (run .agenda) all) e (memory .hand)
 
   -- another run over the same memory
-  pub with-hand : {all′ : List Node} (q : Run) → q .set ≡ run .set → q .marked ≡ run .marked → q .top ≡ run .top → HandOf q all′ → Holds image b work q all′
+  pub with-hand : {all′ : List Node} (q : Run) → q .set ≡ run .set → q .marked ≡ run .marked → q .top ≡ run .top → HandOf q all′ → Holds image book work q all′
   with-hand q c m t x = record {
-    tab = h .tab;
-    height = h .height;
-    marks = h .marks;
-    used = h .used;
-    sheet = h .sheet;
-    due = h .due;
-    ground = h .ground;
-    area = h .area;
-    trail = h .trail;
-    held = h .held;
-    chosen = c ∙ h .chosen;
-    marked = m ∙ h .marked;
-    top = t ∙ h .top;
+    tab = memory .tab;
+    height = memory .height;
+    marks = memory .marks;
+    used = memory .used;
+    sheet = memory .sheet;
+    due = memory .due;
+    ground = memory .ground;
+    area = memory .area;
+    trail = memory .trail;
+    held = memory .held;
+    chosen = c ∙ memory .chosen;
+    marked = m ∙ memory .marked;
+    top = t ∙ memory .top;
     hand = x;
   }

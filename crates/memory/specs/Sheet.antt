@@ -36,32 +36,32 @@ lit-odd y e = λ i. record { atom = y / 2; sign = ap (λ (n : ℕ). eqb n 0) e i
 abbrev pub Unmarked : List Lit → ℕ → Type 0
 Unmarked s p = (on s (pos p) ≡ false) × (on s (neg p) ≡ false)
 
-module _ (p : ℕ) where
-  free-mark : (t f : Bool) → markOf p t f ≡ layout.noMark → (t ≡ false) × (f ≡ false)
+module _ (atom : ℕ) where
+  free-mark : (t f : Bool) → markOf atom t f ≡ layout.noMark → (t ≡ false) × (f ≡ false)
   free-mark true true e = absurd (omega arith)
   free-mark true false e = absurd (omega arith)
   free-mark false true e = absurd (omega arith)
   free-mark false false e = (refl, refl)
 
-  true-mark : (t f : Bool) → markOf p t f ≡ 2 * p + 1 → (t ≡ true) × (f ≡ false)
+  true-mark : (t f : Bool) → markOf atom t f ≡ 2 * atom + 1 → (t ≡ true) × (f ≡ false)
   true-mark true true e = absurd (omega arith)
   true-mark true false e = (refl, refl)
   true-mark false true e = absurd (omega arith)
   true-mark false false e = absurd (omega arith)
 
-  false-mark : (t f : Bool) → markOf p t f ≡ 2 * p + 2 → (t ≡ false) × (f ≡ true)
+  false-mark : (t f : Bool) → markOf atom t f ≡ 2 * atom + 2 → (t ≡ false) × (f ≡ true)
   false-mark true true e = absurd (omega arith)
   false-mark true false e = absurd (omega arith)
   false-mark false true e = (refl, refl)
   false-mark false false e = absurd (omega arith)
 
-  not-true-mark : (t f : Bool) → (markOf p t f ≡ layout.noMark → ⊥) → (markOf p t f ≡ 2 * p + 1 → ⊥) → f ≡ true
+  not-true-mark : (t f : Bool) → (markOf atom t f ≡ layout.noMark → ⊥) → (markOf atom t f ≡ 2 * atom + 1 → ⊥) → f ≡ true
   not-true-mark true true n q = refl
   not-true-mark true false n q = absurd (q refl)
   not-true-mark false true n q = refl
   not-true-mark false false n q = absurd (n refl)
 
-  not-false-mark : (t f : Bool) → (markOf p t f ≡ layout.noMark → ⊥) → (markOf p t f ≡ 2 * p + 2 → ⊥) → t ≡ true
+  not-false-mark : (t f : Bool) → (markOf atom t f ≡ layout.noMark → ⊥) → (markOf atom t f ≡ 2 * atom + 2 → ⊥) → t ≡ true
   not-false-mark true true n q = refl
   not-false-mark true false n q = refl
   not-false-mark false true n q = absurd (q refl)
@@ -74,37 +74,37 @@ free-lit s y f =
     (λ (e : y % 2 ≡ 1). (ap (λ (l : Lit). on s (opposite l)) (lit-odd y e) ∙ f .0, ap (on s) (lit-odd y e) ∙ f .1))
     (parity y)
 
-module _ {tab : ℕ → ℕ} {work : List ℕ} {s : List Lit} (a : Tabled tab work s) (y : ℕ) (h : y / 2 < limits .atoms) where
-  at-free : getD work (y / 2) 0 ≡ layout.noMark → Unmarked s (y / 2)
-  at-free e = free-mark (y / 2) (on s (pos (y / 2))) (on s (neg (y / 2))) (sym (a .marked (y / 2) h) ∙ e)
+module _ {tab : ℕ → ℕ} {work : List ℕ} {sheet : List Lit} (tabled : Tabled tab work sheet) (literal : ℕ) (known : literal / 2 < limits .atoms) where
+  at-free : getD work (literal / 2) 0 ≡ layout.noMark → Unmarked sheet (literal / 2)
+  at-free e = free-mark (literal / 2) (on sheet (pos (literal / 2))) (on sheet (neg (literal / 2))) (sym (tabled .marked (literal / 2) known) ∙ e)
 
   -- a mark of 0: neither the literal nor its opposite stands on the sheet
-  pub reads-free : getD work (y / 2) 0 ≡ layout.noMark → Unmarked s (y / 2)
+  pub reads-free : getD work (literal / 2) 0 ≡ layout.noMark → Unmarked sheet (literal / 2)
   reads-free e = at-free e
 
   -- the literal's own mark: it stands there, and its opposite does not
-  pub reads-so : getD work (y / 2) 0 ≡ y + 1 → (on s (opposite (litOf y)) ≡ false) × (on s (litOf y) ≡ true)
+  pub reads-so : getD work (literal / 2) 0 ≡ literal + 1 → (on sheet (opposite (litOf literal)) ≡ false) × (on sheet (litOf literal) ≡ true)
   reads-so q =
       ⊎-elim
-      (λ (e : y % 2 ≡ 0).
-      let m = true-mark (y / 2) (on s (pos (y / 2))) (on s (neg (y / 2))) (sym (a .marked (y / 2) h) ∙ q ∙ omega arith) in
-      (ap (λ (l : Lit). on s (opposite l)) (lit-even y e) ∙ m .1, ap (on s) (lit-even y e) ∙ m .0))
-      (λ (e : y % 2 ≡ 1).
-      let m = false-mark (y / 2) (on s (pos (y / 2))) (on s (neg (y / 2))) (sym (a .marked (y / 2) h) ∙ q ∙ omega arith) in
-      (ap (λ (l : Lit). on s (opposite l)) (lit-odd y e) ∙ m .0, ap (on s) (lit-odd y e) ∙ m .1))
-      (parity y)
+      (λ (e : literal % 2 ≡ 0).
+      let m = true-mark (literal / 2) (on sheet (pos (literal / 2))) (on sheet (neg (literal / 2))) (sym (tabled .marked (literal / 2) known) ∙ q ∙ omega arith) in
+      (ap (λ (l : Lit). on sheet (opposite l)) (lit-even literal e) ∙ m .1, ap (on sheet) (lit-even literal e) ∙ m .0))
+      (λ (e : literal % 2 ≡ 1).
+      let m = false-mark (literal / 2) (on sheet (pos (literal / 2))) (on sheet (neg (literal / 2))) (sym (tabled .marked (literal / 2) known) ∙ q ∙ omega arith) in
+      (ap (λ (l : Lit). on sheet (opposite l)) (lit-odd literal e) ∙ m .0, ap (on sheet) (lit-odd literal e) ∙ m .1))
+      (parity literal)
 
   -- any other mark: its opposite stands there
-  pub reads-refused : (getD work (y / 2) 0 ≡ layout.noMark → ⊥) → (getD work (y / 2) 0 ≡ y + 1 → ⊥) → on s (opposite (litOf y)) ≡ true
+  pub reads-refused : (getD work (literal / 2) 0 ≡ layout.noMark → ⊥) → (getD work (literal / 2) 0 ≡ literal + 1 → ⊥) → on sheet (opposite (litOf literal)) ≡ true
   reads-refused p q =
       ⊎-elim
-      (λ (e : y % 2 ≡ 0).
-      ap (λ (l : Lit). on s (opposite l)) (lit-even y e)
-      ∙ not-true-mark (y / 2) (on s (pos (y / 2))) (on s (neg (y / 2))) (λ z. p (a .marked (y / 2) h ∙ z)) (λ z. q (a .marked (y / 2) h ∙ z ∙ omega arith)))
-      (λ (e : y % 2 ≡ 1).
-      ap (λ (l : Lit). on s (opposite l)) (lit-odd y e)
-      ∙ not-false-mark (y / 2) (on s (pos (y / 2))) (on s (neg (y / 2))) (λ z. p (a .marked (y / 2) h ∙ z)) (λ z. q (a .marked (y / 2) h ∙ z ∙ omega arith)))
-      (parity y)
+      (λ (e : literal % 2 ≡ 0).
+      ap (λ (l : Lit). on sheet (opposite l)) (lit-even literal e)
+      ∙ not-true-mark (literal / 2) (on sheet (pos (literal / 2))) (on sheet (neg (literal / 2))) (λ z. p (tabled .marked (literal / 2) known ∙ z)) (λ z. q (tabled .marked (literal / 2) known ∙ z ∙ omega arith)))
+      (λ (e : literal % 2 ≡ 1).
+      ap (λ (l : Lit). on sheet (opposite l)) (lit-odd literal e)
+      ∙ not-false-mark (literal / 2) (on sheet (pos (literal / 2))) (on sheet (neg (literal / 2))) (λ z. p (tabled .marked (literal / 2) known ∙ z)) (λ z. q (tabled .marked (literal / 2) known ∙ z ∙ omega arith)))
+      (parity literal)
 
 -- what a literal in front of the sheet changes
 on-other : (s : List Lit) (l m : Lit) → (m .atom ≡ l .atom → ⊥) → on (l ∷ s) m ≡ on s m
@@ -208,25 +208,25 @@ gather-more (suc n) (suc p) t u q h x z =
       pow-suc 2 p,
     )
 
-module _ (b : Book) (s : List Lit) (y : ℕ) where
+module _ (book : Book) (sheet : List Lit) (literal : ℕ) where
   -- a defined atom or a negation adds nothing to the set
-  pub assumed-defined : b .abducibles ≤ y / 2 → assumed b (litOf y ∷ s) ≡ assumed b s
-  assumed-defined h = gather-same (b .abducibles) (λ j. on (litOf y ∷ s) (pos j)) (λ j. on s (pos j)) (λ j q. on-other s (litOf y) (pos j) (λ e. omega (arith, e)))
+  pub assumed-defined : book .abducibles ≤ literal / 2 → assumed book (litOf literal ∷ sheet) ≡ assumed book sheet
+  assumed-defined h = gather-same (book .abducibles) (λ j. on (litOf literal ∷ sheet) (pos j)) (λ j. on sheet (pos j)) (λ j q. on-other sheet (litOf literal) (pos j) (λ e. omega (arith, e)))
 
-  pub assumed-negated : y % 2 ≡ 1 → assumed b (litOf y ∷ s) ≡ assumed b s
+  pub assumed-negated : literal % 2 ≡ 1 → assumed book (litOf literal ∷ sheet) ≡ assumed book sheet
   assumed-negated o =
-      gather-same (b .abducibles) (λ j. on (litOf y ∷ s) (pos j)) (λ j. on s (pos j))
-      (λ j q. ap (λ (l : Lit). on (l ∷ s) (pos j)) (lit-odd y o) ∙ negated j (eqb j (y / 2)) refl)
+      gather-same (book .abducibles) (λ j. on (litOf literal ∷ sheet) (pos j)) (λ j. on sheet (pos j))
+      (λ j q. ap (λ (l : Lit). on (l ∷ sheet) (pos j)) (lit-odd literal o) ∙ negated j (eqb j (literal / 2)) refl)
     where
-      negated : (j : ℕ) (t : Bool) → eqb j (y / 2) ≡ t → on (neg (y / 2) ∷ s) (pos j) ≡ on s (pos j)
+      negated : (j : ℕ) (t : Bool) → eqb j (literal / 2) ≡ t → on (neg (literal / 2) ∷ sheet) (pos j) ≡ on sheet (pos j)
       negated j true e =
-          subst (λ (n : ℕ). on (neg (y / 2) ∷ s) (pos n) ≡ on s (pos n)) (sym (eqb-true j (y / 2) e)) (on-this s (y / 2) false true)
-      negated j false e = on-other s (neg (y / 2)) (pos j) (eqb-false j (y / 2) e)
+          subst (λ (n : ℕ). on (neg (literal / 2) ∷ sheet) (pos n) ≡ on sheet (pos n)) (sym (eqb-true j (literal / 2) e)) (on-this sheet (literal / 2) false true)
+      negated j false e = on-other sheet (neg (literal / 2)) (pos j) (eqb-false j (literal / 2) e)
 
   -- an abducible adds its power
-  pub assumed-joined : y % 2 ≡ 0 → y / 2 < b .abducibles → on s (pos (y / 2)) ≡ false → assumed b (litOf y ∷ s) ≡ assumed b s + 2 ^ (y / 2)
+  pub assumed-joined : literal % 2 ≡ 0 → literal / 2 < book .abducibles → on sheet (pos (literal / 2)) ≡ false → assumed book (litOf literal ∷ sheet) ≡ assumed book sheet + 2 ^ (literal / 2)
   assumed-joined e h f =
-      gather-more (b .abducibles) (y / 2) (λ j. on (litOf y ∷ s) (pos j)) (λ j. on s (pos j)) h
-      (λ j i. on-other s (litOf y) (pos j) i)
-      (ap (λ (l : Lit). on (l ∷ s) (pos (y / 2))) (lit-even y e) ∙ on-this s (y / 2) true true)
+      gather-more (book .abducibles) (literal / 2) (λ j. on (litOf literal ∷ sheet) (pos j)) (λ j. on sheet (pos j)) h
+      (λ j i. on-other sheet (litOf literal) (pos j) i)
+      (ap (λ (l : Lit). on (l ∷ sheet) (pos (literal / 2))) (lit-even literal e) ∙ on-this sheet (literal / 2) true true)
       f

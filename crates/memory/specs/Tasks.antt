@@ -19,37 +19,37 @@ use Rattle.memory.specs.Machine.{nodeOf, Fine, byWays}
 
 -- ---- children
 
-module _ (b : Book) (sheet : List Lit) (rest : List Task) (l : Lit) where
-  pub children-refused : on sheet (opposite l) ≡ true → children b (nodeOf (want l ∷ rest) sheet) ≡ []
+module _ (book : Book) (sheet : List Lit) (rest : List Task) (literal : Lit) where
+  pub children-refused : on sheet (opposite literal) ≡ true → children book (nodeOf (want literal ∷ rest) sheet) ≡ []
   unfolding after results
   children-refused p = rw p
 
-  pub children-so : on sheet (opposite l) ≡ false → on sheet l ≡ true
-      → children b (nodeOf (want l ∷ rest) sheet) ≡ nodeOf rest sheet ∷ []
+  pub children-so : on sheet (opposite literal) ≡ false → on sheet literal ≡ true
+      → children book (nodeOf (want literal ∷ rest) sheet) ≡ nodeOf rest sheet ∷ []
   unfolding after results
   children-so p q = rw (p, q)
 
-  pub children-takes : on sheet (opposite l) ≡ false → on sheet l ≡ false → l .atom < b .abducibles
-      → children b (nodeOf (want l ∷ rest) sheet) ≡ nodeOf rest (l ∷ sheet) ∷ []
+  pub children-takes : on sheet (opposite literal) ≡ false → on sheet literal ≡ false → literal .atom < book .abducibles
+      → children book (nodeOf (want literal ∷ rest) sheet) ≡ nodeOf rest (literal ∷ sheet) ∷ []
   unfolding after results
-  children-takes p q a = rw (p, q, lt-ltb (l .atom) (b .abducibles) a)
+  children-takes p q a = rw (p, q, lt-ltb (literal .atom) (book .abducibles) a)
 
 -- a defined atom
-module _ (b : Book) (sheet : List Lit) (rest : List Task) (p : ℕ) (d : b .abducibles ≤ p) (t : on sheet (pos p) ≡ false) (f : on sheet (neg p) ≡ false) where
-  pub children-opens : children b (nodeOf (want (pos p) ∷ rest) sheet) ≡ byWays rest (pos p ∷ sheet) (map (λ (c : Clause). c .body) (clausesFor b p))
+module _ (book : Book) (sheet : List Lit) (rest : List Task) (atom : ℕ) (defined : book .abducibles ≤ atom) (not-wanted : on sheet (pos atom) ≡ false) (not-denied : on sheet (neg atom) ≡ false) where
+  pub children-opens : children book (nodeOf (want (pos atom) ∷ rest) sheet) ≡ byWays rest (pos atom ∷ sheet) (map (λ (c : Clause). c .body) (clausesFor book atom))
   unfolding after results
-  children-opens = rw (f, t, le-ltb p (b .abducibles) d) (both (clausesFor b p))
+  children-opens = rw (not-denied, not-wanted, le-ltb atom (book .abducibles) defined) (both (clausesFor book atom))
     where
       both : (ks : List Clause)
           → map (λ (n : Node). nodeOf (n .agenda ++ rest) (n .sheet))
-          (map (λ (ts : List Task). nodeOf ts (pos p ∷ sheet)) (map (λ (c : Clause). map want (c .body)) ks))
-          ≡ byWays rest (pos p ∷ sheet) (map (λ (c : Clause). c .body) ks)
+          (map (λ (ts : List Task). nodeOf ts (pos atom ∷ sheet)) (map (λ (c : Clause). map want (c .body)) ks))
+          ≡ byWays rest (pos atom ∷ sheet) (map (λ (c : Clause). c .body) ks)
       both [] = refl
-      both (k ∷ ks) = ap (λ (ns : List Node). nodeOf (map want (k .body) ++ rest) (pos p ∷ sheet) ∷ ns) (both ks)
+      both (k ∷ ks) = ap (λ (ns : List Node). nodeOf (map want (k .body) ++ rest) (pos atom ∷ sheet) ∷ ns) (both ks)
 
-  pub children-denies : children b (nodeOf (want (neg p) ∷ rest) sheet) ≡ nodeOf (map break (clausesFor b p) ++ rest) (neg p ∷ sheet) ∷ []
+  pub children-denies : children book (nodeOf (want (neg atom) ∷ rest) sheet) ≡ nodeOf (map break (clausesFor book atom) ++ rest) (neg atom ∷ sheet) ∷ []
   unfolding after results
-  children-denies = rw (t, f, le-ltb p (b .abducibles) d)
+  children-denies = rw (not-wanted, not-denied, le-ltb atom (book .abducibles) defined)
 
 pub children-picks : (b : Book) (sheet : List Lit) (rest : List Task) (ways : List (List Lit))
     → children b (nodeOf (pick ways ∷ rest) sheet) ≡ byWays rest sheet ways

@@ -133,61 +133,61 @@ known-named b ls h = every-map (Named b) want ls h
 opposites-known : (b : Book) (ls : List Lit) → Known b ls → Every (Known b) (opposites ls)
 opposites-known b ls h = every-map (Known b) (λ (l : Lit). opposite l ∷ []) ls (λ l m. every-more (h l m) (every-none (λ (k : Lit). k .atom < b .atoms)))
 
-module _ (b : Book) where
-  result-frames : {s : List Lit} {t : Task} {n : Node} → Named b t → Result b s t n → held s t + frames b n ≤ choice t + sum (free b s) (below (b .atoms))
+module _ (book : Book) where
+  result-frames : {s : List Lit} {t : Task} {n : Node} → Named book t → Result book s t n → held s t + frames book n ≤ choice t + sum (free book s) (below (book .atoms))
   unfolding frames held
   result-frames {s} h (gone {l} p q) = omega (arith, choose-true {A = ℕ} 0 1 (∈-on s l q))
   result-frames {s} h (joins {l} {ts} p q m) =
       omega (
         arith,
         choose-false {A = ℕ} 0 1 (∉-off s l q),
-        opens-choices b l ts m,
-        join-frees b s l (unmarked s l p q) (below (b .atoms)) (below-in (b .atoms) (l .atom) h),
+        opens-choices book l ts m,
+        join-frees book s l (unmarked s l p q) (below (book .atoms)) (below-in (book .atoms) (l .atom) h),
       )
   result-frames h (picks {way = way} m) = omega (arith, choices-wanted way)
 
   -- What must still be held never rises from a node to its children, and falls at each step that is held.
-  pub frames-fall : {t : Task} {rest : List Task} {s : List Lit} {c : Node} → Named b t → Child b (record { agenda = t ∷ rest; sheet = s }) c
-      → held s t + frames b c ≤ frames b (record { agenda = t ∷ rest; sheet = s })
+  pub frames-fall : {t : Task} {rest : List Task} {s : List Lit} {c : Node} → Named book t → Child book (record { agenda = t ∷ rest; sheet = s }) c
+      → held s t + frames book c ≤ frames book (record { agenda = t ∷ rest; sheet = s })
   unfolding frames
   frames-fall h (child {t} {rest} {s} {n} r) = omega (arith, result-frames h r, sum-append choice (n .agenda) rest)
 
-module _ (b : Book) (o : Orderly b) where
-  opens-named : (l : Lit) (ts : List Task) → ts ∈ opens b l → Every (Named b) ts
-  opens-named l ts m = go (abducible b (l .atom)) (l .sign) m
+module _ (book : Book) (orderly : Orderly book) where
+  opens-named : (l : Lit) (ts : List Task) → ts ∈ opens book l → Every (Named book) ts
+  opens-named l ts m = go (abducible book (l .atom)) (l .sign) m
     where
-      body : (c : Clause) → c ∈ clausesFor b (l .atom) → Known b (c .body)
-      body c i = o .bodies-known c (for-clause b (l .atom) i .0)
+      body : (c : Clause) → c ∈ clausesFor book (l .atom) → Known book (c .body)
+      body c i = orderly .bodies-known c (for-clause book (l .atom) i .0)
 
-      go : (a s : Bool) → ts ∈ choose a ([] ∷ []) (unfolds s (clausesFor b (l .atom))) → Every (Named b) ts
-      go true s k = subst (Every (Named b)) (sym (List·Memᴰ·eq-of-singleton k)) (every-none (Named b))
+      go : (a s : Bool) → ts ∈ choose a ([] ∷ []) (unfolds s (clausesFor book (l .atom))) → Every (Named book) ts
+      go true s k = subst (Every (Named book)) (sym (List·Memᴰ·eq-of-singleton k)) (every-none (Named book))
       go false true k =
-          let w = map-∈ (λ (c : Clause). map want (c .body)) (clausesFor b (l .atom)) k in
-          subst (Every (Named b)) (sym (w .2)) (known-named b (w .0 .body) (body (w .0) (w .1)))
+          let w = map-∈ (λ (c : Clause). map want (c .body)) (clausesFor book (l .atom)) k in
+          subst (Every (Named book)) (sym (w .2)) (known-named book (w .0 .body) (body (w .0) (w .1)))
       go false false k =
-          subst (Every (Named b)) (sym (List·Memᴰ·eq-of-singleton k))
-          (every-map (Named b) break (clausesFor b (l .atom)) (λ c i. opposites-known b (c .body) (body c i)))
+          subst (Every (Named book)) (sym (List·Memᴰ·eq-of-singleton k))
+          (every-map (Named book) break (clausesFor book (l .atom)) (λ c i. opposites-known book (c .body) (body c i)))
 
   -- Every literal that is ever due names an atom of the book: so at the root,
-  pub root-named : Every (Named b) (root b .agenda)
+  pub root-named : Every (Named book) (root book .agenda)
   root-named =
-      every-both (known-named b (b .goal) (o .goal-known))
-      (every-map (Named b) keep (b .constraints)
-      (λ k m. every-both (opposites-known b (k .conditions) (o .conditions-known k m)) (o .alternatives-known k m)))
+      every-both (known-named book (book .goal) (orderly .goal-known))
+      (every-map (Named book) keep (book .constraints)
+      (λ k m. every-both (opposites-known book (k .conditions) (orderly .conditions-known k m)) (orderly .alternatives-known k m)))
 
   -- and so at each child.
-  pub child-named : {n c : Node} → Every (Named b) (n .agenda) → Child b n c → Every (Named b) (c .agenda)
+  pub child-named : {n c : Node} → Every (Named book) (n .agenda) → Child book n c → Every (Named book) (c .agenda)
   child-named h (child r) = every-both (result-named (every-first h) r) (every-rest h)
     where
-      result-named : {s : List Lit} {t : Task} {n : Node} → Named b t → Result b s t n → Every (Named b) (n .agenda)
-      result-named q (gone i j) = every-none (Named b)
+      result-named : {s : List Lit} {t : Task} {n : Node} → Named book t → Result book s t n → Every (Named book) (n .agenda)
+      result-named q (gone i j) = every-none (Named book)
       result-named q (joins {l} {ts} i j m) = opens-named l ts m
-      result-named q (picks {way = way} m) = known-named b way (q way m)
+      result-named q (picks {way = way} m) = known-named book way (q way m)
 
   -- Along a path no more steps are held than its first node can bring.
-  pub held-bound : {n x : Node} {k h : ℕ} → Every (Named b) (n .agenda) → Down b n k h x → h + frames b x ≤ frames b n
+  pub held-bound : {n x : Node} {k h : ℕ} → Every (Named book) (n .agenda) → Down book n k h x → h + frames book x ≤ frames book n
   held-bound g stay = omega arith
-  held-bound g (step c d) = omega (arith, frames-fall b (every-first g) c, held-bound (child-named g c) d)
+  held-bound g (step c d) = omega (arith, frames-fall book (every-first g) c, held-bound (child-named g c) d)
 
 length-put : (t : Bool) (c : Clause) (cs : List Clause) → length (put t c cs) ≡ choose t 1 0 + length cs
 length-put true c cs = omega arith

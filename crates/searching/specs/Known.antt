@@ -135,48 +135,48 @@ True-false v l = go (l .sign) (v (l .atom))
 pub never-both : (v : ℕ → Bool) (l : Lit) → True v l → True v (opposite l) → ⊥
 never-both v l p q = clash (True-true v l p) (True-false v l q)
 
-module _ (v : ℕ → Bool) where
-  known-true : (ls : List Lit) → Every (True v) ls → all-true v ls ≡ true
-  known-true ls h = every-all (true-in v) ls (λ l m. True-true v l (h l m))
+module _ (values : ℕ → Bool) where
+  known-true : (ls : List Lit) → Every (True values) ls → all-true values ls ≡ true
+  known-true ls h = every-all (true-in values) ls (λ l m. True-true values l (h l m))
 
-  true-known : (ls : List Lit) → all-true v ls ≡ true → Every (True v) ls
-  true-known ls e l m = true-True v l (all-every (true-in v) ls e l m)
+  true-known : (ls : List Lit) → all-true values ls ≡ true → Every (True values) ls
+  true-known ls e l m = true-True values l (all-every (true-in values) ls e l m)
 
   -- the clauses' test finds what settles the atom
-  pub met-found : (s : Bool) (cs : List Clause) → Met (True v) s cs → some-body v cs ≡ s
-  met-found true cs w = some-any (λ (c : Clause). all-true v (c .body)) cs (w .0, w .1, known-true (w .0 .body) (w .2))
+  pub met-found : (s : Bool) (cs : List Clause) → Met (True values) s cs → some-body values cs ≡ s
+  met-found true cs w = some-any (λ (c : Clause). all-true values (c .body)) cs (w .0, w .1, known-true (w .0 .body) (w .2))
   met-found false cs h =
-      fails-any (λ (c : Clause). all-true v (c .body)) cs
+      fails-any (λ (c : Clause). all-true values (c .body)) cs
       (λ c m.
       let w = h c m in
-      fails-all (true-in v) (c .body) (w .0, w .1, True-false v (w .0) (w .2)))
+      fails-all (true-in values) (c .body) (w .0, w .1, True-false values (w .0) (w .2)))
 
-  pub found-met : (s : Bool) (cs : List Clause) → some-body v cs ≡ s → Met (True v) s cs
+  pub found-met : (s : Bool) (cs : List Clause) → some-body values cs ≡ s → Met (True values) s cs
   found-met true cs e =
-      let w = any-some (λ (c : Clause). all-true v (c .body)) cs e in
+      let w = any-some (λ (c : Clause). all-true values (c .body)) cs e in
       (w .0, w .1, true-known (w .0 .body) (w .2))
   found-met false cs e = λ c m.
-      let w = all-fails (true-in v) (c .body) (any-fails (λ (c : Clause). all-true v (c .body)) cs e c m) in
-      (w .0, w .1, false-True v (w .0) (w .2))
+      let w = all-fails (true-in values) (c .body) (any-fails (λ (c : Clause). all-true values (c .body)) cs e c m) in
+      (w .0, w .1, false-True values (w .0) (w .2))
 
-  held-holds : (k : Constraint) → Held (True v) k → holds v k ≡ true
+  held-holds : (k : Constraint) → Held (True values) k → holds values k ≡ true
   held-holds k (inl w) =
-      either-left (any (λ (l : Lit). not (true-in v l)) (k .conditions)) (any (all-true v) (k .alternatives))
-      (some-any (λ (l : Lit). not (true-in v l)) (k .conditions) (w .0, w .1, ap not (True-false v (w .0) (w .2))))
+      either-left (any (λ (l : Lit). not (true-in values l)) (k .conditions)) (any (all-true values) (k .alternatives))
+      (some-any (λ (l : Lit). not (true-in values l)) (k .conditions) (w .0, w .1, ap not (True-false values (w .0) (w .2))))
   held-holds k (inr w) =
-      either-right (any (λ (l : Lit). not (true-in v l)) (k .conditions)) (any (all-true v) (k .alternatives))
-      (some-any (all-true v) (k .alternatives) (w .0, w .1, known-true (w .0) (w .2)))
+      either-right (any (λ (l : Lit). not (true-in values l)) (k .conditions)) (any (all-true values) (k .alternatives))
+      (some-any (all-true values) (k .alternatives) (w .0, w .1, known-true (w .0) (w .2)))
 
-  holds-held : (k : Constraint) → holds v k ≡ true → Held (True v) k
+  holds-held : (k : Constraint) → holds values k ≡ true → Held (True values) k
   holds-held k e =
       ⊎-elim
-      (λ (p : any (λ (l : Lit). not (true-in v l)) (k .conditions) ≡ true).
-      let w = any-some (λ (l : Lit). not (true-in v l)) (k .conditions) p in
-      inl (w .0, w .1, false-True v (w .0) (untrue (true-in v (w .0)) (w .2))))
-      (λ (p : any (all-true v) (k .alternatives) ≡ true).
-      let w = any-some (all-true v) (k .alternatives) p in
+      (λ (p : any (λ (l : Lit). not (true-in values l)) (k .conditions) ≡ true).
+      let w = any-some (λ (l : Lit). not (true-in values l)) (k .conditions) p in
+      inl (w .0, w .1, false-True values (w .0) (untrue (true-in values (w .0)) (w .2))))
+      (λ (p : any (all-true values) (k .alternatives) ≡ true).
+      let w = any-some (all-true values) (k .alternatives) p in
       inr (w .0, w .1, true-known (w .0) (w .2)))
-      (either (any (λ (l : Lit). not (true-in v l)) (k .conditions)) (any (all-true v) (k .alternatives)) e)
+      (either (any (λ (l : Lit). not (true-in values l)) (k .conditions)) (any (all-true values) (k .alternatives)) e)
     where
       untrue : (t : Bool) → not t ≡ true → t ≡ false
       untrue true q = sym q

@@ -54,44 +54,44 @@ data Tells (b : Book) (room budget : ℕ) (xs : List Node) (kept : List ℕ) (n 
   short : budget < length xs → Roomy b room kept xs budget → o ≡ used-up (n + budget) → Tells b room budget xs kept n o
   tight : (i : ℕ) → i < length xs → i < budget → Roomy b room kept xs i → room < length (keeps b kept (take (suc i) xs)) → o ≡ no-room (n + suc i) → Tells b room budget xs kept n o
 
-module _ (b : Book) (room : ℕ) where
+module _ (book : Book) (room : ℕ) where
   -- the run over a list of nodes that are all to be visited
   tour : ℕ → List Node → List ℕ → ℕ → Outcome
   tour zero [] kept n = finished kept n
   tour zero (x ∷ xs) kept n = used-up n
   tour (suc k) [] kept n = finished kept n
   tour (suc k) (x ∷ xs) kept n =
-      choose (ltb room (length (noting b (x .agenda) (x .sheet) kept))) (no-room (suc n)) (tour k xs (noting b (x .agenda) (x .sheet) kept) (suc n))
+      choose (ltb room (length (noting book (x .agenda) (x .sheet) kept))) (no-room (suc n)) (tour k xs (noting book (x .agenda) (x .sheet) kept) (suc n))
 
   -- what is due: a node, what its children lead to, and the rest
-  due-law : (x : Node) (due : List Node) → flat (visits b) (x ∷ due) ≡ x ∷ flat (visits b) (children b x ++ due)
+  due-law : (x : Node) (due : List Node) → flat (visits book) (x ∷ due) ≡ x ∷ flat (visits book) (children book x ++ due)
   due-law x due =
-      ap (λ (l : List Node). l ++ flat (visits b) due) (visits-law b x)
-      ∙ ap (λ (l : List Node). x ∷ l) (sym (flat-append (visits b) (children b x) due))
+      ap (λ (l : List Node). l ++ flat (visits book) due) (visits-law book x)
+      ∙ ap (λ (l : List Node). x ∷ l) (sym (flat-append (visits book) (children book x) due))
 
   -- the run visits what is due in the trees' order
-  run-tour : (k : ℕ) (due : List Node) (kept : List ℕ) (n : ℕ) → run b room k due kept n ≡ tour k (flat (visits b) due) kept n
+  run-tour : (k : ℕ) (due : List Node) (kept : List ℕ) (n : ℕ) → run book room k due kept n ≡ tour k (flat (visits book) due) kept n
   unfolding run tour
   run-tour zero [] kept n = refl
   run-tour zero (x ∷ due) kept n = ap (λ (l : List Node). tour zero l kept n) (sym (due-law x due))
   run-tour (suc k) [] kept n = refl
   run-tour (suc k) (x ∷ due) kept n =
-      ap (λ (o : Outcome). choose (ltb room (length (noting b (x .agenda) (x .sheet) kept))) (no-room (suc n)) o)
-      (run-tour k (children b x ++ due) (noting b (x .agenda) (x .sheet) kept) (suc n))
+      ap (λ (o : Outcome). choose (ltb room (length (noting book (x .agenda) (x .sheet) kept))) (no-room (suc n)) o)
+      (run-tour k (children book x ++ due) (noting book (x .agenda) (x .sheet) kept) (suc n))
       ∙ ap (λ (l : List Node). tour (suc k) l kept n) (sym (due-law x due))
 
-  roomy-none : (xs : List Node) (kept : List ℕ) → length kept ≤ room → Roomy b room kept xs 0
+  roomy-none : (xs : List Node) (kept : List ℕ) → length kept ≤ room → Roomy book room kept xs 0
   unfolding keeps
   roomy-none xs kept h zero i = h
   roomy-none xs kept h (suc j) i = absurd (omega arith)
 
   roomy-more : (x : Node) (xs : List Node) (kept : List ℕ) (i : ℕ) → length kept ≤ room
-      → Roomy b room (noting b (x .agenda) (x .sheet) kept) xs i → Roomy b room kept (x ∷ xs) (suc i)
+      → Roomy book room (noting book (x .agenda) (x .sheet) kept) xs i → Roomy book room kept (x ∷ xs) (suc i)
   unfolding keeps
   roomy-more x xs kept i h f zero j = h
   roomy-more x xs kept i h f (suc k) j = f k (omega arith)
 
-  tells : (k : ℕ) (xs : List Node) (kept : List ℕ) (n : ℕ) → length kept ≤ room → Tells b room k xs kept n (tour k xs kept n)
+  tells : (k : ℕ) (xs : List Node) (kept : List ℕ) (n : ℕ) → length kept ≤ room → Tells book room k xs kept n (tour k xs kept n)
   unfolding tour keeps
   tells zero [] kept n h = through (omega arith) (roomy-none [] kept h) (ap (finished kept) (omega arith))
   tells zero (x ∷ xs) kept n h = short (omega arith) (roomy-none (x ∷ xs) kept h) (ap used-up (omega arith))
@@ -99,18 +99,18 @@ module _ (b : Book) (room : ℕ) where
   tells (suc k) (x ∷ xs) kept n h = go (ltb room (length now)) refl (tells k xs now (suc n))
     where
       now : List ℕ
-      now = noting b (x .agenda) (x .sheet) kept
+      now = noting book (x .agenda) (x .sheet) kept
 
       next : Outcome
       next = tour k xs now (suc n)
 
-      step : length now ≤ room → Tells b room k xs now (suc n) next → Tells b room (suc k) (x ∷ xs) kept n next
-      step g (through p f e) = through (omega arith) (roomy-more x xs kept (length xs) h f) (e ∙ ap (finished (keeps b now (take (length xs) xs))) (omega arith))
+      step : length now ≤ room → Tells book room k xs now (suc n) next → Tells book room (suc k) (x ∷ xs) kept n next
+      step g (through p f e) = through (omega arith) (roomy-more x xs kept (length xs) h f) (e ∙ ap (finished (keeps book now (take (length xs) xs))) (omega arith))
       step g (short p f e) = short (omega arith) (roomy-more x xs kept k h f) (e ∙ ap used-up (omega arith))
       step g (tight i p q f r e) = tight (suc i) (omega arith) (omega arith) (roomy-more x xs kept i h f) r (e ∙ ap no-room (omega arith))
 
-      go : (t : Bool) → ltb room (length now) ≡ t → (length now ≤ room → Tells b room k xs now (suc n) next)
-          → Tells b room (suc k) (x ∷ xs) kept n (choose t (no-room (suc n)) next)
+      go : (t : Bool) → ltb room (length now) ≡ t → (length now ≤ room → Tells book room k xs now (suc n) next)
+          → Tells book room (suc k) (x ∷ xs) kept n (choose t (no-room (suc n)) next)
       go true e ih = tight 0 (omega arith) (omega arith) (roomy-none (x ∷ xs) kept h) (ltb-true room (length now) e) (ap no-room (omega arith))
       go false e ih = step (ltb-false room (length now) e) (ih (ltb-false room (length now) e))
 
@@ -144,59 +144,59 @@ says-unique b room budget start (fills-up i h g f r e) (fills-up j h′ g′ f�
     meet (inr p) (inl q) = absurd (omega (arith, f (suc j) (ltb-true j i q)))
     meet (inr p) (inr q) = omega (arith, ltb-false i j p, ltb-false j i q)
 
-module _ (b : Book) (room budget : ℕ) (start : Node) where
+module _ (book : Book) (room budget : ℕ) (start : Node) where
   -- A run finishes exactly if the tree has no more nodes than the budget and the kept sets fit throughout. It has then visited exactly the
   -- tree: its node number is the tree's size, and its kept sets are those after the whole tree.
-  pub finished-exactly : (kept : List ℕ) (n : ℕ) → (run-from b room budget start ≡ finished kept n)
-      ↔ ((size b start ≤ budget) × Fits b room start (size b start) × (kept ≡ kept-at b start (size b start)) × (n ≡ size b start))
-  finished-exactly kept n = (λ e. to e (says b room budget start), back)
+  pub finished-exactly : (kept : List ℕ) (n : ℕ) → (run-from book room budget start ≡ finished kept n)
+      ↔ ((size book start ≤ budget) × Fits book room start (size book start) × (kept ≡ kept-at book start (size book start)) × (n ≡ size book start))
+  finished-exactly kept n = (λ e. to e (says book room budget start), back)
     where
       Whole : Type 0
-      Whole = (size b start ≤ budget) × Fits b room start (size b start) × (kept ≡ kept-at b start (size b start)) × (n ≡ size b start)
+      Whole = (size book start ≤ budget) × Fits book room start (size book start) × (kept ≡ kept-at book start (size book start)) × (n ≡ size book start)
 
-      to : run-from b room budget start ≡ finished kept n → Says b room budget start (run-from b room budget start) → Whole
+      to : run-from book room budget start ≡ finished kept n → Says book room budget start (run-from book room budget start) → Whole
       to e (finishes h f q) = (h, f, cc, cc)
       to e (runs-out h f q) = let z : _≡_ {A = ℕ} 0 1 = cc in absurd (omega arith)
       to e (fills-up i h g f r q) = let z : _≡_ {A = ℕ} 0 1 = cc in absurd (omega arith)
 
-      back : Whole → run-from b room budget start ≡ finished kept n
-      back w = says-unique b room budget start (says b room budget start) (finishes (w .0) (w .1) (cc (w .2, w .3)))
+      back : Whole → run-from book room budget start ≡ finished kept n
+      back w = says-unique book room budget start (says book room budget start) (finishes (w .0) (w .1) (cc (w .2, w .3)))
 
   -- 30 comes exactly if the tree has more nodes than the budget and the kept sets fit as far as the budget goes; its node number is the budget.
-  pub used-up-exactly : (n : ℕ) → (run-from b room budget start ≡ used-up n) ↔ ((budget < size b start) × Fits b room start budget × (n ≡ budget))
-  used-up-exactly n = (λ e. to e (says b room budget start), back)
+  pub used-up-exactly : (n : ℕ) → (run-from book room budget start ≡ used-up n) ↔ ((budget < size book start) × Fits book room start budget × (n ≡ budget))
+  used-up-exactly n = (λ e. to e (says book room budget start), back)
     where
-      to : run-from b room budget start ≡ used-up n → Says b room budget start (run-from b room budget start) → (budget < size b start) × Fits b room start budget × (n ≡ budget)
+      to : run-from book room budget start ≡ used-up n → Says book room budget start (run-from book room budget start) → (budget < size book start) × Fits book room start budget × (n ≡ budget)
       to e (finishes h f q) = let z : _≡_ {A = ℕ} 0 1 = cc in absurd (omega arith)
       to e (runs-out h f q) = (h, f, cc)
       to e (fills-up i h g f r q) = let z : _≡_ {A = ℕ} 0 1 = cc in absurd (omega arith)
 
-      back : (budget < size b start) × Fits b room start budget × (n ≡ budget) → run-from b room budget start ≡ used-up n
-      back w = says-unique b room budget start (says b room budget start) (runs-out (w .0) (w .1) (ap used-up (w .2)))
+      back : (budget < size book start) × Fits book room start budget × (n ≡ budget) → run-from book room budget start ≡ used-up n
+      back w = says-unique book room budget start (says book room budget start) (runs-out (w .0) (w .1) (ap used-up (w .2)))
 
   -- 31 comes exactly at the first node at which the kept sets outnumber the room, if it stands within the budget; its node number counts that node.
-  pub no-room-exactly : (i : ℕ) → (run-from b room budget start ≡ no-room (suc i))
-      ↔ ((i < size b start) × (i < budget) × Fits b room start i × (room < length (kept-at b start (suc i))))
-  no-room-exactly i = (λ e. to e (says b room budget start), back)
+  pub no-room-exactly : (i : ℕ) → (run-from book room budget start ≡ no-room (suc i))
+      ↔ ((i < size book start) × (i < budget) × Fits book room start i × (room < length (kept-at book start (suc i))))
+  no-room-exactly i = (λ e. to e (says book room budget start), back)
     where
-      to : run-from b room budget start ≡ no-room (suc i) → Says b room budget start (run-from b room budget start)
-          → (i < size b start) × (i < budget) × Fits b room start i × (room < length (kept-at b start (suc i)))
+      to : run-from book room budget start ≡ no-room (suc i) → Says book room budget start (run-from book room budget start)
+          → (i < size book start) × (i < budget) × Fits book room start i × (room < length (kept-at book start (suc i)))
       to e (finishes h f q) = let z : _≡_ {A = ℕ} 0 1 = cc in absurd (omega arith)
       to e (runs-out h f q) = let z : _≡_ {A = ℕ} 0 1 = cc in absurd (omega arith)
       to e (fills-up j h g f r q) =
           let s : suc j ≡ suc i = cc in
           let z : j ≡ i = omega arith in
-          subst (λ (k : ℕ). (k < size b start) × (k < budget) × Fits b room start k × (room < length (kept-at b start (suc k)))) z (h, g, f, r)
+          subst (λ (k : ℕ). (k < size book start) × (k < budget) × Fits book room start k × (room < length (kept-at book start (suc k)))) z (h, g, f, r)
 
-      back : (i < size b start) × (i < budget) × Fits b room start i × (room < length (kept-at b start (suc i))) → run-from b room budget start ≡ no-room (suc i)
-      back w = says-unique b room budget start (says b room budget start) (fills-up i (w .0) (w .1) (w .2) (w .3) refl)
+      back : (i < size book start) × (i < budget) × Fits book room start i × (room < length (kept-at book start (suc i))) → run-from book room budget start ≡ no-room (suc i)
+      back w = says-unique book room budget start (says book room budget start) (fills-up i (w .0) (w .1) (w .2) (w .3) refl)
 
   -- No larger budget and no larger room changes a finished search, neither list nor node number (paper 02, A11.2).
   pub finished-larger : (room′ budget′ : ℕ) → room ≤ room′ → budget ≤ budget′ → (kept : List ℕ) (n : ℕ)
-      → run-from b room budget start ≡ finished kept n → run-from b room′ budget′ start ≡ finished kept n
+      → run-from book room budget start ≡ finished kept n → run-from book room′ budget′ start ≡ finished kept n
   finished-larger room′ budget′ p q kept n e =
       let w = finished-exactly kept n .0 e in
-      says-unique b room′ budget′ start (says b room′ budget′ start) (finishes (omega (arith, w .0)) (λ j h. omega (arith, w .1 j h)) (cc (w .2, w .3)))
+      says-unique book room′ budget′ start (says book room′ budget′ start) (finishes (omega (arith, w .0)) (λ j h. omega (arith, w .1 j h)) (cc (w .2, w .3)))
 
 -- what is kept after some nodes are the smallest of their sets, put to the kept sets one after the other
 pub keeps-sets : (b : Book) (kept : List ℕ) (xs : List Node)

@@ -73,95 +73,95 @@ own-sheet b d = map (λ (p : ℕ). side p (value b d p)) (below (b .atoms))
 abbrev pub Right : (ℕ → Bool) → List Lit → Type 0
 Right v s = Every (True v) s
 
-module _ (b : Book) (o : Orderly b) where
+module _ (book : Book) (orderly : Orderly book) where
   -- what is found is what settles the atom
-  pub settled : (d p : ℕ) (t : Bool) → abducible b p ≡ false → Met (True (value b d)) t (clausesFor b p) → value b d p ≡ t
-  settled d p t a m = value-model b o d p ∙ choose-false (has d p) (some-body (value b d) (clausesFor b p)) a ∙ met-found (value b d) t (clausesFor b p) m
+  pub settled : (d p : ℕ) (t : Bool) → abducible book p ≡ false → Met (True (value book d)) t (clausesFor book p) → value book d p ≡ t
+  settled d p t a m = value-model book orderly d p ∙ choose-false (has d p) (some-body (value book d) (clausesFor book p)) a ∙ met-found (value book d) t (clausesFor book p) m
 
-  pub settles : (d p : ℕ) (t : Bool) → abducible b p ≡ false → value b d p ≡ t → Met (True (value b d)) t (clausesFor b p)
+  pub settles : (d p : ℕ) (t : Bool) → abducible book p ≡ false → value book d p ≡ t → Met (True (value book d)) t (clausesFor book p)
   settles d p t a e =
-      found-met (value b d) t (clausesFor b p)
-      (sym (choose-false (has d p) (some-body (value b d) (clausesFor b p)) a) ∙ sym (value-model b o d p) ∙ e)
+      found-met (value book d) t (clausesFor book p)
+      (sym (choose-false (has d p) (some-body (value book d) (clausesFor book p)) a) ∙ sym (value-model book orderly d p) ∙ e)
 
   -- an abducible has the value that the set gives it
-  pub given : (d p : ℕ) → abducible b p ≡ true → value b d p ≡ has d p
-  given d p a = value-model b o d p ∙ choose-true (has d p) (some-body (value b d) (clausesFor b p)) a
+  pub given : (d p : ℕ) → abducible book p ≡ true → value book d p ≡ has d p
+  given d p a = value-model book orderly d p ∙ choose-true (has d p) (some-body (value book d) (clausesFor book p)) a
 
   -- Every literal of an accepted sheet is true under the values of its set.
-  pub accepted-right : (s : List Lit) → Accepted b s → Right (value b (assumed b s)) s
-  accepted-right s a l m = by-rank b o (λ (p : ℕ). (t : Bool) → side p t ∈ s → value b d p ≡ t) step (l .atom) (l .sign) m
+  pub accepted-right : (s : List Lit) → Accepted book s → Right (value book (assumed book s)) s
+  accepted-right s a l m = by-rank book orderly (λ (p : ℕ). (t : Bool) → side p t ∈ s → value book d p ≡ t) step (l .atom) (l .sign) m
     where
       d : ℕ
-      d = assumed b s
+      d = assumed book s
 
-      assumes : (p : ℕ) → abducible b p ≡ true → value b (assumed b s) p ≡ on s (side p true)
-      assumes p e = given (assumed b s) p e ∙ has-assumed b s p ∙ ap (λ (r : Bool). r && on s (side p true)) e
+      assumes : (p : ℕ) → abducible book p ≡ true → value book (assumed book s) p ≡ on s (side p true)
+      assumes p e = given (assumed book s) p e ∙ has-assumed book s p ∙ ap (λ (r : Bool). r && on s (side p true)) e
 
-      step : (p : ℕ) → ((c : Clause) → c ∈ clausesFor b p → (k : Lit) → k ∈ c .body → (t : Bool) → side (k .atom) t ∈ s → value b d (k .atom) ≡ t)
-          → (t : Bool) → side p t ∈ s → value b d p ≡ t
-      step p ih t k = go (abducible b p) refl t k
+      step : (p : ℕ) → ((c : Clause) → c ∈ clausesFor book p → (k : Lit) → k ∈ c .body → (t : Bool) → side (k .atom) t ∈ s → value book d (k .atom) ≡ t)
+          → (t : Bool) → side p t ∈ s → value book d p ≡ t
+      step p ih t k = go (abducible book p) refl t k
         where
-          known : (c : Clause) → c ∈ clausesFor b p → (l : Lit) → l ∈ c .body → (m : Lit) → m .atom ≡ l .atom → m ∈ s → True (value b d) m
+          known : (c : Clause) → c ∈ clausesFor book p → (l : Lit) → l ∈ c .body → (m : Lit) → m .atom ≡ l .atom → m ∈ s → True (value book d) m
           known c i l j m e n =
-              ap (value b d) e ∙ ih c i l j (m .sign) (subst (λ (q : ℕ). side q (m .sign) ∈ s) e n)
+              ap (value book d) e ∙ ih c i l j (m .sign) (subst (λ (q : ℕ). side q (m .sign) ∈ s) e n)
 
-          go : (r : Bool) → abducible b p ≡ r → (t : Bool) → side p t ∈ s → value b d p ≡ t
+          go : (r : Bool) → abducible book p ≡ r → (t : Bool) → side p t ∈ s → value book d p ≡ t
           go true e true n = assumes p e ∙ ∈-on s (side p true) n
           go true e false n = assumes p e ∙ ∉-off s (side p true) (λ i. a .apart p i n)
-          go false e true n = settled d p true e (met-change (On s) (True (value b d)) true (clausesFor b p) known (a .held-true p e n))
-          go false e false n = settled d p false e (met-change (On s) (True (value b d)) false (clausesFor b p) known (a .held-false p e n))
+          go false e true n = settled d p true e (met-change (On s) (True (value book d)) true (clausesFor book p) known (a .held-true p e n))
+          go false e false n = settled d p false e (met-change (On s) (True (value book d)) false (clausesFor book p) known (a .held-false p e n))
 
   -- So its abducibles held true explain.
-  pub accepted-explains : (s : List Lit) → Accepted b s → explains b (assumed b s) ≡ true
-  accepted-explains s a = fine-explains b (assumed b s) .0 (λ l m. right l (a .goal l m), λ k m. held k (a .constraints k m))
+  pub accepted-explains : (s : List Lit) → Accepted book s → explains book (assumed book s) ≡ true
+  accepted-explains s a = fine-explains book (assumed book s) .0 (λ l m. right l (a .goal l m), λ k m. held k (a .constraints k m))
     where
-      right : Right (value b (assumed b s)) s
+      right : Right (value book (assumed book s)) s
       right = accepted-right s a
 
-      held : (k : Constraint) → Held (On s) k → Held (True (value b (assumed b s))) k
+      held : (k : Constraint) → Held (On s) k → Held (True (value book (assumed book s))) k
       held k (inl w) = inl (w .0, w .1, right (opposite (w .0)) (w .2))
       held k (inr w) = inr (w .0, w .1, λ l m. right l (w .2 l m))
 
-  own-right : (d : ℕ) → Right (value b d) (own-sheet b d)
+  own-right : (d : ℕ) → Right (value book d) (own-sheet book d)
   own-right d l m =
-      let w = map-∈ (λ (p : ℕ). side p (value b d p)) (below (b .atoms)) m in
-      subst (True (value b d)) (sym (w .2)) refl
+      let w = map-∈ (λ (p : ℕ). side p (value book d p)) (below (book .atoms)) m in
+      subst (True (value book d)) (sym (w .2)) refl
 
-  own-in : (d : ℕ) (l : Lit) → l .atom < b .atoms → True (value b d) l → l ∈ own-sheet b d
+  own-in : (d : ℕ) (l : Lit) → l .atom < book .atoms → True (value book d) l → l ∈ own-sheet book d
   own-in d l h e =
-      subst (λ (t : Bool). side (l .atom) t ∈ own-sheet b d) e (∈-map (λ (p : ℕ). side p (value b d p)) (below-in (b .atoms) (l .atom) h))
+      subst (λ (t : Bool). side (l .atom) t ∈ own-sheet book d) e (∈-map (λ (p : ℕ). side p (value book d p)) (below-in (book .atoms) (l .atom) h))
 
   -- For each explaining set there is an accepted sheet
-  pub own-accepted : (d : ℕ) → explains b d ≡ true → Accepted b (own-sheet b d)
+  pub own-accepted : (d : ℕ) → explains book d ≡ true → Accepted book (own-sheet book d)
   own-accepted d e = record {
     apart = λ p m n. clash (own-right d (side p true) m) (own-right d (side p false) n);
-    goal = λ l m. own-in d l (o .goal-known l m) (fine .0 l m);
-    held-true = λ p a m. met-change (True (value b d)) (On (own-sheet b d)) true (clausesFor b p) (known p) (settles d p true a (own-right d (side p true) m));
-    held-false = λ p a m. met-change (True (value b d)) (On (own-sheet b d)) false (clausesFor b p) (known p) (settles d p false a (own-right d (side p false) m));
+    goal = λ l m. own-in d l (orderly .goal-known l m) (fine .0 l m);
+    held-true = λ p a m. met-change (True (value book d)) (On (own-sheet book d)) true (clausesFor book p) (known p) (settles d p true a (own-right d (side p true) m));
+    held-false = λ p a m. met-change (True (value book d)) (On (own-sheet book d)) false (clausesFor book p) (known p) (settles d p false a (own-right d (side p false) m));
     constraints = λ k m. held k m (fine .1 k m);
   }
     where
-      fine : Fine (True (value b d)) b
-      fine = fine-explains b d .1 e
+      fine : Fine (True (value book d)) book
+      fine = fine-explains book d .1 e
 
-      known : (p : ℕ) (c : Clause) → c ∈ clausesFor b p → (l : Lit) → l ∈ c .body → (m : Lit) → m .atom ≡ l .atom → True (value b d) m → m ∈ own-sheet b d
-      known p c i l j m q t = own-in d m (omega (arith, q, o .bodies-known c (for-clause b p i .0) l j)) t
+      known : (p : ℕ) (c : Clause) → c ∈ clausesFor book p → (l : Lit) → l ∈ c .body → (m : Lit) → m .atom ≡ l .atom → True (value book d) m → m ∈ own-sheet book d
+      known p c i l j m q t = own-in d m (omega (arith, q, orderly .bodies-known c (for-clause book p i .0) l j)) t
 
-      held : (k : Constraint) → k ∈ b .constraints → Held (True (value b d)) k → Held (On (own-sheet b d)) k
-      held k m (inl w) = inl (w .0, w .1, own-in d (opposite (w .0)) (o .conditions-known k m (w .0) (w .1)) (w .2))
-      held k m (inr w) = inr (w .0, w .1, λ l n. own-in d l (o .alternatives-known k m (w .0) (w .1) l n) (w .2 l n))
+      held : (k : Constraint) → k ∈ book .constraints → Held (True (value book d)) k → Held (On (own-sheet book d)) k
+      held k m (inl w) = inl (w .0, w .1, own-in d (opposite (w .0)) (orderly .conditions-known k m (w .0) (w .1)) (w .2))
+      held k m (inr w) = inr (w .0, w .1, λ l n. own-in d l (orderly .alternatives-known k m (w .0) (w .1) l n) (w .2 l n))
 
   -- whose true side has its members, and no other abducible.
-  pub own-assumed : (d : ℕ) → ((j : ℕ) → has d j ≡ true → j < b .abducibles) → assumed b (own-sheet b d) ≡ d
-  own-assumed d h = same-members (assumed b (own-sheet b d)) d (λ j. has-assumed b (own-sheet b d) j ∙ same-test (to j) (back j))
+  pub own-assumed : (d : ℕ) → ((j : ℕ) → has d j ≡ true → j < book .abducibles) → assumed book (own-sheet book d) ≡ d
+  own-assumed d h = same-members (assumed book (own-sheet book d)) d (λ j. has-assumed book (own-sheet book d) j ∙ same-test (to j) (back j))
     where
-      to : (j : ℕ) → (abducible b j && on (own-sheet b d) (side j true)) ≡ true → has d j ≡ true
+      to : (j : ℕ) → (abducible book j && on (own-sheet book d) (side j true)) ≡ true → has d j ≡ true
       to j e =
-          sym (given d j (both-left (abducible b j) (on (own-sheet b d) (side j true)) e))
-          ∙ own-right d (side j true) (on-∈ (own-sheet b d) (side j true) (both-right (abducible b j) (on (own-sheet b d) (side j true)) e))
+          sym (given d j (both-left (abducible book j) (on (own-sheet book d) (side j true)) e))
+          ∙ own-right d (side j true) (on-∈ (own-sheet book d) (side j true) (both-right (abducible book j) (on (own-sheet book d) (side j true)) e))
 
-      back : (j : ℕ) → has d j ≡ true → (abducible b j && on (own-sheet b d) (side j true)) ≡ true
+      back : (j : ℕ) → has d j ≡ true → (abducible book j && on (own-sheet book d) (side j true)) ≡ true
       back j e =
-          let a = lt-ltb j (b .abducibles) (h j e) in
-          both (abducible b j) (on (own-sheet b d) (side j true)) a
-          (∈-on (own-sheet b d) (side j true) (own-in d (side j true) (omega (arith, h j e, o .assumable)) (given d j a ∙ e)))
+          let a = lt-ltb j (book .abducibles) (h j e) in
+          both (abducible book j) (on (own-sheet book d) (side j true)) a
+          (∈-on (own-sheet book d) (side j true) (own-in d (side j true) (omega (arith, h j e, orderly .assumable)) (given d j a ∙ e)))

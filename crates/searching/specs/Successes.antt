@@ -72,9 +72,9 @@ record Ends (b : Book) (s : List Lit) (n : Node) : Type 0 where
   -- and none of it against another
   clear : Clear (n .sheet) → Clear s
 
-module _ (b : Book) where
+module _ (book : Book) where
   -- a parent leads where its child leads
-  ends-up : {s : List Lit} {n c : Node} → Child b n c → Ends b s c → Ends b s n
+  ends-up : {s : List Lit} {n c : Node} → Child book n c → Ends book s c → Ends book s n
   ends-up (child (gone {l} p q)) e = record {
     grows = e .grows;
     done = every-more (e .grows l q) (e .done);
@@ -88,13 +88,13 @@ module _ (b : Book) where
     clear = λ h. e .clear (clear-more s₀ l p h);
   }
     where
-      opened : (r : Bool) → abducible b (l .atom) ≡ r → ts ∈ choose r ([] ∷ []) (unfolds (l .sign) (clausesFor b (l .atom))) → abducible b (l .atom) ≡ false
-          → Met (On s) (l .sign) (clausesFor b (l .atom))
+      opened : (r : Bool) → abducible book (l .atom) ≡ r → ts ∈ choose r ([] ∷ []) (unfolds (l .sign) (clausesFor book (l .atom))) → abducible book (l .atom) ≡ false
+          → Met (On s) (l .sign) (clausesFor book (l .atom))
       opened true a i f = clash a f
-      opened false a i f = done-unfolds (On s) (l .sign) (clausesFor b (l .atom)) ts i (every-left rest (e .done))
+      opened false a i f = done-unfolds (On s) (l .sign) (clausesFor book (l .atom)) ts i (every-left rest (e .done))
 
-      new : (k : Lit) → (k ≡ l) ⊎ (k ∈ s₀) → (k ∈ s₀) ⊎ (abducible b (k .atom) ≡ false → Met (On s) (k .sign) (clausesFor b (k .atom)))
-      new k (inl i) = inr (subst (λ (x : Lit). abducible b (x .atom) ≡ false → Met (On s) (x .sign) (clausesFor b (x .atom))) (sym i) (opened (abducible b (l .atom)) refl m))
+      new : (k : Lit) → (k ≡ l) ⊎ (k ∈ s₀) → (k ∈ s₀) ⊎ (abducible book (k .atom) ≡ false → Met (On s) (k .sign) (clausesFor book (k .atom)))
+      new k (inl i) = inr (subst (λ (x : Lit). abducible book (x .atom) ≡ false → Met (On s) (x .sign) (clausesFor book (x .atom))) (sym i) (opened (abducible book (l .atom)) refl m))
       new k (inr j) = inl j
   ends-up {s} (child (picks {ways} {way} m)) e = record {
     grows = e .grows;
@@ -103,7 +103,7 @@ module _ (b : Book) where
     clear = e .clear;
   }
 
-  success-ends : (x : Node) → Success x → Ends b (x .sheet) x
+  success-ends : (x : Node) → Success x → Ends book (x .sheet) x
   success-ends x e = record {
     grows = λ l m. m;
     done = subst (Every (Done (On (x .sheet)))) (sym e) (every-none (Done (On (x .sheet))));
@@ -112,16 +112,16 @@ module _ (b : Book) where
   }
 
   -- a node leads to every success of its tree
-  ends : (x : Node) → Success x → (n : Node) → x ∈ visits b n → Ends b (x .sheet) n
-  ends x e = by-children b (λ (n : Node). x ∈ visits b n → Ends b (x .sheet) n) (λ n ih m. go n ih (visits-cases b n m))
+  ends : (x : Node) → Success x → (n : Node) → x ∈ visits book n → Ends book (x .sheet) n
+  ends x e = by-children book (λ (n : Node). x ∈ visits book n → Ends book (x .sheet) n) (λ n ih m. go n ih (visits-cases book n m))
     where
-      go : (n : Node) → ((c : Node) → c ∈ children b n → x ∈ visits b c → Ends b (x .sheet) c)
-          → (x ≡ n) ⊎ Some (λ (c : Node). x ∈ visits b c) (children b n) → Ends b (x .sheet) n
-      go n ih (inl q) = subst (λ (m : Node). Ends b (x .sheet) m) q (success-ends x e)
-      go n ih (inr w) = ends-up (child-of b n (w .1)) (ih (w .0) (w .1) (w .2))
+      go : (n : Node) → ((c : Node) → c ∈ children book n → x ∈ visits book c → Ends book (x .sheet) c)
+          → (x ≡ n) ⊎ Some (λ (c : Node). x ∈ visits book c) (children book n) → Ends book (x .sheet) n
+      go n ih (inl q) = subst (λ (m : Node). Ends book (x .sheet) m) q (success-ends x e)
+      go n ih (inr w) = ends-up (child-of book n (w .1)) (ih (w .0) (w .1) (w .2))
 
   -- Every success below a start gives an accepted sheet.
-  pub success-accepted : (n x : Node) → Start b n → x ∈ visits b n → Success x → Accepted b (x .sheet)
+  pub success-accepted : (n x : Node) → Start book n → x ∈ visits book n → Success x → Accepted book (x .sheet)
   success-accepted n x start m e = record {
     apart = λ p i j. clear (side p true) i j;
     goal = fine .0;
@@ -130,11 +130,11 @@ module _ (b : Book) where
     constraints = fine .1;
   }
     where
-      end : Ends b (x .sheet) n
+      end : Ends book (x .sheet) n
       end = ends x e n m
 
-      fine : Fine (On (x .sheet)) b
-      fine = done-root (On (x .sheet)) b (λ t i. end .done t (start .asks t i))
+      fine : Fine (On (x .sheet)) book
+      fine = done-root (On (x .sheet)) book (λ t i. end .done t (start .asks t i))
 
       empty : (l : Lit) → l ∈ n .sheet → ⊥
       empty l i = List·Memᴰ·not-nil (subst (λ (r : List Lit). l ∈ r) (start .bare) i)
@@ -142,71 +142,71 @@ module _ (b : Book) where
       clear : Clear (x .sheet)
       clear = end .clear (λ l i j. empty l i)
 
-      settled : (l : Lit) → l ∈ x .sheet → abducible b (l .atom) ≡ false → Met (On (x .sheet)) (l .sign) (clausesFor b (l .atom))
+      settled : (l : Lit) → l ∈ x .sheet → abducible book (l .atom) ≡ false → Met (On (x .sheet)) (l .sign) (clausesFor book (l .atom))
       settled l i a = ⊎-elim (λ (j : l ∈ n .sheet). absurd (empty l j)) (λ f. f a) (end .fresh l i)
 
-module _ (b : Book) (o : Orderly b) (d : ℕ) where
-  -- n's tasks can be done and its sheet is right under the values of d
+module _ (book : Book) (orderly : Orderly book) (set : ℕ) where
+  -- n's tasks can be done and its sheet is right under the values of the set
   pub record Agrees (n : Node) : Type 0 where
-    pub able : Every (Done (True (value b d))) (n .agenda)
-    pub right : Right (value b d) (n .sheet)
+    pub able : Every (Done (True (value book set))) (n .agenda)
+    pub right : Right (value book set) (n .sheet)
 
-  -- under d a literal that is true opens to tasks that can be done
-  opens-able : (l : Lit) → True (value b d) l → Some (Every (Done (True (value b d)))) (opens b l)
-  opens-able l e = go (abducible b (l .atom)) refl
+  -- under the set a literal that is true opens to tasks that can be done
+  opens-able : (l : Lit) → True (value book set) l → Some (Every (Done (True (value book set)))) (opens book l)
+  opens-able l e = go (abducible book (l .atom)) refl
     where
-      go : (r : Bool) → abducible b (l .atom) ≡ r → Some (Every (Done (True (value b d)))) (choose r ([] ∷ []) (unfolds (l .sign) (clausesFor b (l .atom))))
-      go true a = ([], here, every-none (Done (True (value b d))))
-      go false a = unfolds-done (True (value b d)) (l .sign) (clausesFor b (l .atom)) (settles b o d (l .atom) (l .sign) a e)
+      go : (r : Bool) → abducible book (l .atom) ≡ r → Some (Every (Done (True (value book set)))) (choose r ([] ∷ []) (unfolds (l .sign) (clausesFor book (l .atom))))
+      go true a = ([], here, every-none (Done (True (value book set))))
+      go false a = unfolds-done (True (value book set)) (l .sign) (clausesFor book (l .atom)) (settles book orderly set (l .atom) (l .sign) a e)
 
   -- A node that agrees is a success or has a child that agrees.
-  agrees-down : (n : Node) → Agrees n → Success n ⊎ Some Agrees (children b n)
+  agrees-down : (n : Node) → Agrees n → Success n ⊎ Some Agrees (children book n)
   agrees-down n h = go (n .agenda) (h .able)
     where
       -- a result whose tasks can be done, and whose sheet is right, makes a child that agrees
-      down : (t : Task) (rest : List Task) (r : Node) → Result b (n .sheet) t r → Every (Done (True (value b d))) (r .agenda) → Right (value b d) (r .sheet)
-          → Every (Done (True (value b d))) rest → Some Agrees (children b (record { agenda = t ∷ rest; sheet = n .sheet }))
-      down t rest r i able right more = (before rest r, of-child b (child i), record { able = every-both able more; right = right })
+      down : (t : Task) (rest : List Task) (r : Node) → Result book (n .sheet) t r → Every (Done (True (value book set))) (r .agenda) → Right (value book set) (r .sheet)
+          → Every (Done (True (value book set))) rest → Some Agrees (children book (record { agenda = t ∷ rest; sheet = n .sheet }))
+      down t rest r i able right more = (before rest r, of-child book (child i), record { able = every-both able more; right = right })
 
-      wanted : (l : Lit) (rest : List Task) → True (value b d) l → Every (Done (True (value b d))) rest → (t : Bool) → on (n .sheet) l ≡ t
-          → Some Agrees (children b (record { agenda = want l ∷ rest; sheet = n .sheet }))
+      wanted : (l : Lit) (rest : List Task) → True (value book set) l → Every (Done (True (value book set))) rest → (t : Bool) → on (n .sheet) l ≡ t
+          → Some Agrees (children book (record { agenda = want l ∷ rest; sheet = n .sheet }))
       wanted l rest e more true q =
-          down (want l) rest (record { agenda = []; sheet = n .sheet }) (gone clear (on-∈ (n .sheet) l q)) (every-none (Done (True (value b d)))) (h .right) more
+          down (want l) rest (record { agenda = []; sheet = n .sheet }) (gone clear (on-∈ (n .sheet) l q)) (every-none (Done (True (value book set)))) (h .right) more
         where
           clear : opposite l ∈ n .sheet → ⊥
-          clear m = never-both (value b d) l e (h .right (opposite l) m)
+          clear m = never-both (value book set) l e (h .right (opposite l) m)
       wanted l rest e more false q =
           let w = opens-able l e in
           down (want l) rest (record { agenda = w .0; sheet = l ∷ n .sheet })
-          (joins (λ m. never-both (value b d) l e (h .right (opposite l) m)) (off-∉ (n .sheet) l q) (w .1)) (w .2) (every-more e (h .right)) more
+          (joins (λ m. never-both (value book set) l e (h .right (opposite l) m)) (off-∉ (n .sheet) l q) (w .1)) (w .2) (every-more e (h .right)) more
 
-      go : (ts : List Task) → Every (Done (True (value b d))) ts → (ts ≡ []) ⊎ Some Agrees (children b (record { agenda = ts; sheet = n .sheet }))
+      go : (ts : List Task) → Every (Done (True (value book set))) ts → (ts ≡ []) ⊎ Some Agrees (children book (record { agenda = ts; sheet = n .sheet }))
       go [] r = inl refl
       go (want l ∷ rest) r = inr (wanted l rest (every-first r) (every-rest r) (on (n .sheet) l) refl)
       go (pick ways ∷ rest) r =
-          let w = every-first {P = Done (True (value b d))} r in
+          let w = every-first {P = Done (True (value book set))} r in
           inr (down (pick ways) rest (record { agenda = map want (w .0); sheet = n .sheet }) (picks (w .1))
-          (every-map (Done (True (value b d))) want (w .0) (w .2)) (h .right) (every-rest r))
+          (every-map (Done (True (value book set))) want (w .0) (w .2)) (h .right) (every-rest r))
 
   -- So a tree whose first node agrees has a success whose sheet is right.
-  pub agrees-success : (n : Node) → Agrees n → Some (λ (x : Node). Success x × Right (value b d) (x .sheet)) (visits b n)
-  agrees-success = by-children b (λ (n : Node). Agrees n → Some (λ (x : Node). Success x × Right (value b d) (x .sheet)) (visits b n)) step
+  pub agrees-success : (n : Node) → Agrees n → Some (λ (x : Node). Success x × Right (value book set) (x .sheet)) (visits book n)
+  agrees-success = by-children book (λ (n : Node). Agrees n → Some (λ (x : Node). Success x × Right (value book set) (x .sheet)) (visits book n)) step
     where
-      step : (n : Node) → ((c : Node) → c ∈ children b n → Agrees c → Some (λ (x : Node). Success x × Right (value b d) (x .sheet)) (visits b c))
-          → Agrees n → Some (λ (x : Node). Success x × Right (value b d) (x .sheet)) (visits b n)
-      step n ih h = ⊎-elim (λ (e : Success n). (n, visits-here b n, (e, h .right))) (λ (w : Some Agrees (children b n)). deeper w) (agrees-down n h)
+      step : (n : Node) → ((c : Node) → c ∈ children book n → Agrees c → Some (λ (x : Node). Success x × Right (value book set) (x .sheet)) (visits book c))
+          → Agrees n → Some (λ (x : Node). Success x × Right (value book set) (x .sheet)) (visits book n)
+      step n ih h = ⊎-elim (λ (e : Success n). (n, visits-here book n, (e, h .right))) (λ (w : Some Agrees (children book n)). deeper w) (agrees-down n h)
         where
-          deeper : Some Agrees (children b n) → Some (λ (x : Node). Success x × Right (value b d) (x .sheet)) (visits b n)
+          deeper : Some Agrees (children book n) → Some (λ (x : Node). Success x × Right (value book set) (x .sheet)) (visits book n)
           deeper w =
               let u = ih (w .0) (w .1) (w .2) in
-              (u .0, visits-below b n (w .0) (w .1) (u .1), u .2)
+              (u .0, visits-below book n (w .0) (w .1) (u .1), u .2)
 
-  -- The set of a sheet that is right lies inside d.
-  right-inside : (s : List Lit) → Right (value b d) s → Inside (assumed b s) d
+  -- What a sheet that is right assumes lies inside the set.
+  right-inside : (s : List Lit) → Right (value book set) s → Inside (assumed book s) set
   right-inside s h j e =
-      let q = sym (has-assumed b s j) ∙ e in
-      sym (given b o d j (both-left (abducible b j) (on s (side j true)) q))
-      ∙ h (side j true) (on-∈ s (side j true) (both-right (abducible b j) (on s (side j true)) q))
+      let q = sym (has-assumed book s j) ∙ e in
+      sym (given book orderly set j (both-left (abducible book j) (on s (side j true)) q))
+      ∙ h (side j true) (on-∈ s (side j true) (both-right (abducible book j) (on s (side j true)) q))
 
 -- a success is a node with an empty agenda, and its set that of its sheet
 pub set-from : (b : Book) (n : Node) {d : ℕ} → d ∈ sets b n → Some (λ (x : Node). Success x × (d ≡ assumed b (x .sheet))) (visits b n)
@@ -225,25 +225,25 @@ from-set b n x m e =
     ∈-flat (λ (x : Node). reached b (x .agenda) (x .sheet)) (visits b n) m
     (subst (λ (ts : List Task). assumed b (x .sheet) ∈ reached b ts (x .sheet)) (sym e) here)
 
-module _ (b : Book) (o : Orderly b) where
+module _ (book : Book) (orderly : Orderly book) where
   -- A success's set explains, and its members are abducibles.
-  pub sets-explain : (n : Node) → Start b n → (d : ℕ) → d ∈ sets b n → explains b d ≡ true
+  pub sets-explain : (n : Node) → Start book n → (d : ℕ) → d ∈ sets book n → explains book d ≡ true
   sets-explain n start d m =
-      let w = set-from b n m in
-      subst (λ (k : ℕ). explains b k ≡ true) (sym (w .2 .1))
-      (accepted-explains b o (w .0 .sheet) (success-accepted b n (w .0) start (w .1) (w .2 .0)))
+      let w = set-from book n m in
+      subst (λ (k : ℕ). explains book k ≡ true) (sym (w .2 .1))
+      (accepted-explains book orderly (w .0 .sheet) (success-accepted book n (w .0) start (w .1) (w .2 .0)))
 
   -- Inside every set under which the start's tasks can be done lies a success's set.
-  pub sets-under : (n : Node) (d : ℕ) → Agrees b o d n → Some (λ (s : ℕ). Inside s d) (sets b n)
+  pub sets-under : (n : Node) (d : ℕ) → Agrees book orderly d n → Some (λ (s : ℕ). Inside s d) (sets book n)
   sets-under n d h =
-      let w = agrees-success b o d n h in
-      (assumed b (w .0 .sheet), from-set b n (w .0) (w .1) (w .2 .0), right-inside b o d (w .0 .sheet) (w .2 .1))
+      let w = agrees-success book orderly d n h in
+      (assumed book (w .0 .sheet), from-set book n (w .0) (w .1) (w .2 .0), right-inside book orderly d (w .0 .sheet) (w .2 .1))
 
   -- Under a set that explains, the root's tasks can be done.
-  pub root-agrees : (d : ℕ) → explains b d ≡ true → Agrees b o d (root b)
+  pub root-agrees : (d : ℕ) → explains book d ≡ true → Agrees book orderly d (root book)
   root-agrees d e = record {
-    able = root-done (True (value b d)) b (fine-explains b d .1 e);
-    right = every-none (True (value b d));
+    able = root-done (True (value book d)) book (fine-explains book d .1 e);
+    right = every-none (True (value book d));
   }
 
 -- the members of a success's set are abducibles

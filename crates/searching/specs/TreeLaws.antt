@@ -90,58 +90,58 @@ flat-same : {A B : Type 0} (f g : B → List A) (l : List B) → Every (λ (x : 
 flat-same f g [] h = refl
 flat-same f g (x ∷ l) h = ap₂ _++_ (every-first h) (flat-same f g l (every-rest h))
 
-module _ (b : Book) where
-  result-falls : {s : List Lit} {t : Task} {n : Node} → Result b s t n → potential b n < weight t + sum (waiting s) (b .clauses)
+module _ (book : Book) where
+  result-falls : {s : List Lit} {t : Task} {n : Node} → Result book s t n → potential book n < weight t + sum (waiting s) (book .clauses)
   unfolding potential clausesFor
   result-falls (gone p q) = omega arith
-  result-falls {s} (joins {l} {ts} p q m) = omega (arith, opens-weight b l ts m, spend s l (unmarked s l p q) (b .clauses))
+  result-falls {s} (joins {l} {ts} p q m) = omega (arith, opens-weight book l ts m, spend s l (unmarked s l p q) (book .clauses))
   result-falls (picks {ways} {way} m) = omega (arith, wants-weight way, sum-part length ways m)
 
   -- The potential falls from each node to each of its children.
-  pub falls : {n c : Node} → Child b n c → potential b c < potential b n
+  pub falls : {n c : Node} → Child book n c → potential book c < potential book n
   unfolding potential
   falls (child {t} {rest} {s} {n} r) = omega (arith, result-falls r, sum-append weight (n .agenda) rest)
 
   -- What holds of a node whenever it holds of its children holds of every node.
-  pub by-children : (P : Node → Type 0) → ((n : Node) → ((c : Node) → c ∈ children b n → P c) → P n) → (n : Node) → P n
-  by-children P step n = go (suc (potential b n)) n (omega arith)
+  pub by-children : (P : Node → Type 0) → ((n : Node) → ((c : Node) → c ∈ children book n → P c) → P n) → (n : Node) → P n
+  by-children P step n = go (suc (potential book n)) n (omega arith)
     where
-      go : (k : ℕ) (m : Node) → potential b m < k → P m
+      go : (k : ℕ) (m : Node) → potential book m < k → P m
       go zero m h = absurd (omega arith)
-      go (suc k) m h = step m (λ c i. go k c (omega (arith, falls (child-of b m i))))
+      go (suc k) m h = step m (λ c i. go k c (omega (arith, falls (child-of book m i))))
 
   -- more depth than the potential changes nothing
-  deep : (j k : ℕ) (n : Node) → potential b n < j → potential b n < k → descend b j n ≡ descend b k n
+  deep : (j k : ℕ) (n : Node) → potential book n < j → potential book n < k → descend book j n ≡ descend book k n
   unfolding descend
   deep zero k n p q = absurd (omega arith)
   deep (suc j) zero n p q = absurd (omega arith)
   deep (suc j) (suc k) n p q =
       ap (λ (l : List Node). n ∷ l)
-      (flat-same (descend b j) (descend b k) (children b n)
-      (λ c m. deep j k c (omega (arith, falls (child-of b n m))) (omega (arith, falls (child-of b n m)))))
+      (flat-same (descend book j) (descend book k) (children book n)
+      (λ c m. deep j k c (omega (arith, falls (child-of book n m))) (omega (arith, falls (child-of book n m)))))
 
   -- The tree is its node and, one after the other, the trees of its children.
-  pub visits-law : (n : Node) → visits b n ≡ n ∷ flat (visits b) (children b n)
+  pub visits-law : (n : Node) → visits book n ≡ n ∷ flat (visits book) (children book n)
   unfolding visits descend
   visits-law n =
       ap (λ (l : List Node). n ∷ l)
-      (flat-same (descend b (potential b n)) (visits b) (children b n)
-      (λ c m. deep (potential b n) (suc (potential b c)) c (falls (child-of b n m)) (omega arith)))
+      (flat-same (descend book (potential book n)) (visits book) (children book n)
+      (λ c m. deep (potential book n) (suc (potential book c)) c (falls (child-of book n m)) (omega arith)))
 
   -- Nothing else is so.
-  pub visits-only : (f : Node → List Node) → ((n : Node) → f n ≡ n ∷ flat f (children b n)) → (n : Node) → f n ≡ visits b n
+  pub visits-only : (f : Node → List Node) → ((n : Node) → f n ≡ n ∷ flat f (children book n)) → (n : Node) → f n ≡ visits book n
   visits-only f law =
-      by-children (λ (n : Node). f n ≡ visits b n)
-      (λ n ih. law n ∙ ap (λ (l : List Node). n ∷ l) (flat-same f (visits b) (children b n) ih) ∙ sym (visits-law n))
+      by-children (λ (n : Node). f n ≡ visits book n)
+      (λ n ih. law n ∙ ap (λ (l : List Node). n ∷ l) (flat-same f (visits book) (children book n) ih) ∙ sym (visits-law n))
 
   -- a node of the tree is its first node or a node of a child's tree
-  pub visits-cases : (n : Node) {x : Node} → x ∈ visits b n → (x ≡ n) ⊎ Some (λ (c : Node). x ∈ visits b c) (children b n)
+  pub visits-cases : (n : Node) {x : Node} → x ∈ visits book n → (x ≡ n) ⊎ Some (λ (c : Node). x ∈ visits book c) (children book n)
   visits-cases n {x} m =
-      ⊎-elim (λ (e : x ≡ n). inl e) (λ (k : x ∈ flat (visits b) (children b n)). inr (flat-∈ (visits b) (children b n) k))
+      ⊎-elim (λ (e : x ≡ n). inl e) (λ (k : x ∈ flat (visits book) (children book n)). inr (flat-∈ (visits book) (children book n) k))
       (List·Memᴰ·cases-cons (subst (λ (l : List Node). x ∈ l) (visits-law n) m))
 
-  pub visits-here : (n : Node) → n ∈ visits b n
+  pub visits-here : (n : Node) → n ∈ visits book n
   visits-here n = subst (λ (l : List Node). n ∈ l) (sym (visits-law n)) here
 
-  pub visits-below : (n c : Node) {x : Node} → c ∈ children b n → x ∈ visits b c → x ∈ visits b n
-  visits-below n c {x} m k = subst (λ (l : List Node). x ∈ l) (sym (visits-law n)) (there (∈-flat (visits b) (children b n) m k))
+  pub visits-below : (n c : Node) {x : Node} → c ∈ children book n → x ∈ visits book c → x ∈ visits book n
+  visits-below n c {x} m k = subst (λ (l : List Node). x ∈ l) (sym (visits-law n)) (there (∈-flat (visits book) (children book n) m k))

@@ -128,31 +128,31 @@ pub record ClauseLaid (image work : List ℕ) (c : ℕ) (after : List ℕ) (at w
   pub stays : (j : ℕ) → (j ≡ clauseRecord c → ⊥) → (clauseWay c ≤ j → j < clauseWay c + wayWidth → ⊥) → (breakWays (bookIn image) c ≤ j → j < breakWays (bookIn image) (c + 1) → ⊥)
       → getD after j 0 ≡ getD work j 0
 
-module _ (image work : List ℕ) (c at way : ℕ) (due : ClauseDue image work c at way) where
+module _ (image work : List ℕ) (clause at way : ℕ) (due : ClauseDue image work clause at way) where
   -- it stands there, with n body literals, and there is place for its ways
   pub record ClauseThere (n : ℕ) : Type 0 where
-    pub few : c < limits .clauses
+    pub few : clause < limits .clauses
     pub there : at + 4 ≤ length image
     pub short : Short image
     pub literals : Literals image (at + 4) n
-    pub behind : clauseWay c + wayWidth ≤ way
+    pub behind : clauseWay clause + wayWidth ≤ way
     pub room : way + wayWidth * n ≤ trail
 
-  count-is : (n : ℕ) → n ≡ fieldAt image at / 2 - 1 → n ≡ length (clauseOf (bookIn image) c .body)
+  count-is : (n : ℕ) → n ≡ fieldAt image at / 2 - 1 → n ≡ length (clauseOf (bookIn image) clause .body)
   count-is n e =
-      let k = clause-at image (bookIn image) (due .book) c (due .less) in
-      let z : fieldAt image at ≡ 2 * suc (length (clauseOf (bookIn image) c .body)) = ap (fieldAt image) (due .place) ∙ k .size in
+      let k = clause-at image (bookIn image) (due .book) clause (due .less) in
+      let z : fieldAt image at ≡ 2 * suc (length (clauseOf (bookIn image) clause .body)) = ap (fieldAt image) (due .place) ∙ k .size in
       omega arith
 
   pub clause-there : (at + 4 ≤ length image) × Short image × (2 ≤ fieldAt image at)
   clause-there =
-      let k = clause-at image (bookIn image) (due .book) c (due .less) in
-      let z : fieldAt image at ≡ 2 * suc (length (clauseOf (bookIn image) c .body)) = ap (fieldAt image) (due .place) ∙ k .size in
+      let k = clause-at image (bookIn image) (due .book) clause (due .less) in
+      let z : fieldAt image at ≡ 2 * suc (length (clauseOf (bookIn image) clause .body)) = ap (fieldAt image) (due .place) ∙ k .size in
       (omega (arith, due .place, k .literals .there), k .literals .short, omega arith)
 
   pub clause-record : (n : ℕ) → n ≡ fieldAt image at / 2 - 1 → ClauseThere n
   clause-record n e =
-      let k = clause-at image (bookIn image) (due .book) c (due .less) in
+      let k = clause-at image (bookIn image) (due .book) clause (due .less) in
       let is = count-is n e in
       let less = due .less in
       let few = k .few in
@@ -167,46 +167,46 @@ module _ (image work : List ℕ) (c at way : ℕ) (due : ClauseDue image work c 
       }
 
   pub clause-laid : (n x h link : ℕ) (after : List ℕ) → n ≡ fieldAt image at / 2 - 1 → Listed image (λ j. 0) x (litsAt image (at + 4) n) → h ≡ fieldAt image (at + 2)
-      → OppositesLaid image (set (set work (clauseWay c) x) (clauseWay c + 1) h) way (at + 4) n noLink after link
-      → ClauseLaid image work c (set after (clauseRecord c) link) (at + 4 + 2 * n) (way + wayWidth * n)
+      → OppositesLaid image (set (set work (clauseWay clause) x) (clauseWay clause + 1) h) way (at + 4) n noLink after link
+      → ClauseLaid image work clause (set after (clauseRecord clause) link) (at + 4 + 2 * n) (way + wayWidth * n)
   clause-laid n x h link after e l i o =
       let b : Book = bookIn image in
-      let k = clause-at image b (due .book) c (due .less) in
+      let k = clause-at image b (due .book) clause (due .less) in
       let r = clause-record n e in
-      let ls : List Lit = clauseOf b c .body in
+      let ls : List Lit = clauseOf b clause .body in
       let is : n ≡ length ls = count-is n e in
-      let low : clauseWay c + wayWidth ≤ way = r .behind in
-      let first : way ≡ breakWays b c = due .way-is in
-      let last : way + wayWidth * n ≡ breakWays b (c + 1) = omega (arith, k .ways) in
-      let old : List ℕ = set (set work (clauseWay c) x) (clauseWay c + 1) h in
-      let fits : clauseWay c + wayWidth ≤ length work = omega (arith, due .long, r .room) in
-      let size : length after ≡ length work = o .size ∙ pair-length work (clauseWay c) x h in
+      let low : clauseWay clause + wayWidth ≤ way = r .behind in
+      let first : way ≡ breakWays b clause = due .way-is in
+      let last : way + wayWidth * n ≡ breakWays b (clause + 1) = omega (arith, k .ways) in
+      let old : List ℕ = set (set work (clauseWay clause) x) (clauseWay clause + 1) h in
+      let fits : clauseWay clause + wayWidth ≤ length work = omega (arith, due .long, r .room) in
+      let size : length after ≡ length work = o .size ∙ pair-length work (clauseWay clause) x h in
       let lits : litsAt image (at + 4) n ≡ ls = ap₂ (λ (p m : ℕ). litsAt image (p + 4) m) (due .place) is ∙ k .body in
       let row : Row image (of after) way (way + wayWidth * n) link (opposites (litsAt image (at + 4) n)) =
       subst (Row image (of after) way (way + wayWidth * n) link) (append-nil (opposites (litsAt image (at + 4) n))) (o .row (way + wayWidth * n) [] (omega arith) stop) in
-      let row′ : Row image (of (set after (clauseRecord c) link)) (breakWays b c) (breakWays b (c + 1)) link (opposites ls) =
-      subst (λ (ks : List Lit). Row image (of (set after (clauseRecord c) link)) (breakWays b c) (breakWays b (c + 1)) link (opposites ks)) lits
-      (row-same image (of after) (of (set after (clauseRecord c) link)) way (way + wayWidth * n) (breakWays b c) (breakWays b (c + 1)) (omega arith) (omega arith)
-      (λ j p q. set-there after (clauseRecord c) link j (λ z. omega (arith, z, r .few, low))) row) in
+      let row′ : Row image (of (set after (clauseRecord clause) link)) (breakWays b clause) (breakWays b (clause + 1)) link (opposites ls) =
+      subst (λ (ks : List Lit). Row image (of (set after (clauseRecord clause) link)) (breakWays b clause) (breakWays b (clause + 1)) link (opposites ks)) lits
+      (row-same image (of after) (of (set after (clauseRecord clause) link)) way (way + wayWidth * n) (breakWays b clause) (breakWays b (clause + 1)) (omega arith) (omega arith)
+      (λ j p q. set-there after (clauseRecord clause) link j (λ z. omega (arith, z, r .few, low))) row) in
       record {
         place = ap₂ (λ (p m : ℕ). p + 4 + 2 * m) (due .place) is ∙ k .next;
         way-is = last;
-        size = length-set after (clauseRecord c) link ∙ size;
+        size = length-set after (clauseRecord clause) link ∙ size;
         table =
             record {
               listed =
                   subst₂ (Listed image (λ j. 0))
-                  (sym (set-there after (clauseRecord c) link (clauseWay c) (λ z. omega (arith, z, r .few)) ∙ o .stays (clauseWay c) (λ p q. omega arith) ∙ pair-first work (clauseWay c) x h fits)) lits l;
+                  (sym (set-there after (clauseRecord clause) link (clauseWay clause) (λ z. omega (arith, z, r .few)) ∙ o .stays (clauseWay clause) (λ p q. omega arith) ∙ pair-first work (clauseWay clause) x h fits)) lits l;
               head =
-                  set-there after (clauseRecord c) link (clauseWay c + 1) (λ z. omega (arith, z, r .few)) ∙ o .stays (clauseWay c + 1) (λ p q. omega arith)
-                  ∙ pair-second work (clauseWay c) x h fits ∙ i ∙ ap (λ (p : ℕ). fieldAt image (p + 2)) (due .place) ∙ k .head;
+                  set-there after (clauseRecord clause) link (clauseWay clause + 1) (λ z. omega (arith, z, r .few)) ∙ o .stays (clauseWay clause + 1) (λ p q. omega arith)
+                  ∙ pair-second work (clauseWay clause) x h fits ∙ i ∙ ap (λ (p : ℕ). fieldAt image (p + 2)) (due .place) ∙ k .head;
               broken =
-                  subst (λ (m : ℕ). Row image (of (set after (clauseRecord c) link)) (breakWays b c) (breakWays b (c + 1)) m (opposites ls))
-                  (sym (set-here after (clauseRecord c) link (omega (arith, size, due .long, r .few)))) row′;
+                  subst (λ (m : ℕ). Row image (of (set after (clauseRecord clause) link)) (breakWays b clause) (breakWays b (clause + 1)) m (opposites ls))
+                  (sym (set-here after (clauseRecord clause) link (omega (arith, size, due .long, r .few)))) row′;
             };
         stays =
             λ j p q u.
-            set-there after (clauseRecord c) link j p ∙ o .stays j (λ y z. u (omega arith) (omega arith)) ∙ pair-stays work (clauseWay c) x h j q;
+            set-there after (clauseRecord clause) link j p ∙ o .stays j (λ y z. u (omega arith) (omega arith)) ∙ pair-stays work (clauseWay clause) x h j q;
       }
 
 -- ---- all clauses

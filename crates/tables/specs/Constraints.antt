@@ -124,20 +124,20 @@ pub record ConstraintLaid (image work : List ℕ) (k way : ℕ) (after : List �
   pub cell : CellLaid (of after) k
   pub stays : (j : ℕ) → (way ≤ j → j < way′ → ⊥) → (constraintRecord k ≤ j → j < constraintRecord k + recordWidth → ⊥) → (cellFrom k ≤ j → j < cellFrom k + cellWidth → ⊥) → getD after j 0 ≡ getD work j 0
 
-module _ (image work : List ℕ) (k at way : ℕ) (due : ConstraintDue image work k at way) where
-  abbrev constraint : Constraint
-  constraint = constraintOf (bookIn image) k
+module _ (image work : List ℕ) (constraint at way : ℕ) (due : ConstraintDue image work constraint at way) where
+  abbrev said : Constraint
+  said = constraintOf (bookIn image) constraint
 
   -- it stands there
   pub record There : Type 0 where
-    pub few : k < limits .constraints
+    pub few : constraint < limits .constraints
     pub there : at + 4 ≤ length image
     pub short : Short image
     pub fits : at + 2 + fieldAt image at ≤ length image
 
   pub constraint-there : There
   constraint-there =
-      let r = constraint-at image (bookIn image) (due .book) k (due .less) in
+      let r = constraint-at image (bookIn image) (due .book) constraint (due .less) in
       let fits : at + 2 + fieldAt image at ≤ length image = subst (λ (p : ℕ). p + 2 + fieldAt image p ≤ length image) (sym (due .place)) (r .fits) in
       record {
         few = omega (arith, r .few, due .less);
@@ -152,18 +152,18 @@ module _ (image work : List ℕ) (k at way : ℕ) (due : ConstraintDue image wor
     pub room : way + wayWidth * n ≤ trail
     pub alternatives-due : (u : List ℕ) → length u ≡ length work → AlternativesDue image u (way + wayWidth * n) (at + 4 + 2 * n) (at + 2 + fieldAt image at)
 
-  module _ (n : ℕ) (e : n ≡ fieldAt image (at + 2)) where
-    count-is : n ≡ length (constraint .conditions)
-    count-is = e ∙ ap (λ (p : ℕ). fieldAt image (p + 2)) (due .place) ∙ constraint-at image (bookIn image) (due .book) k (due .less) .count
+  module _ (count : ℕ) (counted : count ≡ fieldAt image (at + 2)) where
+    count-is : count ≡ length (said .conditions)
+    count-is = counted ∙ ap (λ (p : ℕ). fieldAt image (p + 2)) (due .place) ∙ constraint-at image (bookIn image) (due .book) constraint (due .less) .count
 
-    alternatives-are : Alternatives image (at + 4 + 2 * n) (at + 2 + fieldAt image at) (constraint .alternatives)
+    alternatives-are : Alternatives image (at + 4 + 2 * count) (at + 2 + fieldAt image at) (said .alternatives)
     alternatives-are =
-        subst₂ (λ (p m : ℕ). Alternatives image (p + 4 + 2 * m) (p + 2 + fieldAt image p) (constraint .alternatives)) (sym (due .place)) (sym count-is)
-        (constraint-at image (bookIn image) (due .book) k (due .less) .alternatives)
+        subst₂ (λ (p m : ℕ). Alternatives image (p + 4 + 2 * m) (p + 2 + fieldAt image p) (said .alternatives)) (sym (due .place)) (sym count-is)
+        (constraint-at image (bookIn image) (due .book) constraint (due .less) .alternatives)
 
-    pub constraint-counted : Counted n
+    pub constraint-counted : Counted count
     constraint-counted =
-        let r = constraint-at image (bookIn image) (due .book) k (due .less) in
+        let r = constraint-at image (bookIn image) (due .book) constraint (due .less) in
         let is = count-is in
         let ways = r .ways in
         let room = r .room in
@@ -174,7 +174,7 @@ module _ (image work : List ℕ) (k at way : ℕ) (due : ConstraintDue image wor
           alternatives-due =
               λ u q.
               record {
-                lists = constraint .alternatives;
+                lists = said .alternatives;
                 alternatives = alternatives-are;
                 room = omega arith;
                 short = r .short;
@@ -182,31 +182,31 @@ module _ (image work : List ℕ) (k at way : ℕ) (due : ConstraintDue image wor
               };
         }
 
-    pub constraint-laid : (u₁ u₂ after : List ℕ) (way′ next link : ℕ) → AlternativesLaid image work (way + wayWidth * n) (at + 4 + 2 * n) (at + 2 + fieldAt image at) u₁ way′
-        → next ≡ linkTo (way + wayWidth * n) (at + 4 + 2 * n) (at + 2 + fieldAt image at)
-        → OppositesLaid image u₁ way (at + 4) n next u₂ link → RecordLaid u₂ k link after → ConstraintLaid image work k way after (at + 2 + fieldAt image at) way′
+    pub constraint-laid : (u₁ u₂ after : List ℕ) (way′ next link : ℕ) → AlternativesLaid image work (way + wayWidth * count) (at + 4 + 2 * count) (at + 2 + fieldAt image at) u₁ way′
+        → next ≡ linkTo (way + wayWidth * count) (at + 4 + 2 * count) (at + 2 + fieldAt image at)
+        → OppositesLaid image u₁ way (at + 4) count next u₂ link → RecordLaid u₂ constraint link after → ConstraintLaid image work constraint way after (at + 2 + fieldAt image at) way′
     constraint-laid u₁ u₂ after way′ next link a i o c =
-        let r = constraint-at image (bookIn image) (due .book) k (due .less) in
+        let r = constraint-at image (bookIn image) (due .book) constraint (due .less) in
         let is = count-is in
-        let last : way′ ≡ way + wayWidth * n + wayWidth * length (constraint .alternatives) = a .ways (constraint .alternatives) alternatives-are in
+        let last : way′ ≡ way + wayWidth * count + wayWidth * length (said .alternatives) = a .ways (said .alternatives) alternatives-are in
         let ways = r .ways in
         let first = due .way-most in
         let less = due .less in
         let few = r .few in
         let low = due .low in
-        let lits : litsAt image (at + 4) n ≡ constraint .conditions = ap₂ (λ (p m : ℕ). litsAt image (p + 4) m) (due .place) is ∙ r .conditions in
-        let row₁ : Row image (of u₁) (way + wayWidth * n) way′ next (constraint .alternatives) =
-        subst (λ (m : ℕ). Row image (of u₁) (way + wayWidth * n) way′ m (constraint .alternatives)) (sym i) (a .row (constraint .alternatives) alternatives-are) in
-        let row₂ : Row image (of u₂) way way′ link (opposites (constraint .conditions) ++ constraint .alternatives) =
-        subst (λ (ls : List Lit). Row image (of u₂) way way′ link (opposites ls ++ constraint .alternatives)) lits (o .row way′ (constraint .alternatives) (omega arith) row₁) in
-        let row₃ : Row image (of after) way way′ link (opposites (constraint .conditions) ++ constraint .alternatives) =
+        let lits : litsAt image (at + 4) count ≡ said .conditions = ap₂ (λ (p m : ℕ). litsAt image (p + 4) m) (due .place) is ∙ r .conditions in
+        let row₁ : Row image (of u₁) (way + wayWidth * count) way′ next (said .alternatives) =
+        subst (λ (m : ℕ). Row image (of u₁) (way + wayWidth * count) way′ m (said .alternatives)) (sym i) (a .row (said .alternatives) alternatives-are) in
+        let row₂ : Row image (of u₂) way way′ link (opposites (said .conditions) ++ said .alternatives) =
+        subst (λ (ls : List Lit). Row image (of u₂) way way′ link (opposites ls ++ said .alternatives)) lits (o .row way′ (said .alternatives) (omega arith) row₁) in
+        let row₃ : Row image (of after) way way′ link (opposites (said .conditions) ++ said .alternatives) =
         row-same image (of u₂) (of after) way way′ way way′ (omega arith) (omega arith) (λ j p q. c .stays j (λ x y. omega arith) (λ x y. omega arith)) row₂ in
         record {
           place = ap (λ (p : ℕ). p + 2 + fieldAt image p) (due .place) ∙ r .next;
           low = omega arith;
           way-most = omega arith;
           size = c .size ∙ o .size ∙ a .size;
-          row = subst (λ (m : ℕ). Row image (of after) way way′ m (opposites (constraint .conditions) ++ constraint .alternatives)) (sym (c .number)) row₃;
+          row = subst (λ (m : ℕ). Row image (of after) way way′ m (opposites (said .conditions) ++ said .alternatives)) (sym (c .number)) row₃;
           link = c .link;
           cell = c .cell;
           stays =
@@ -214,18 +214,18 @@ module _ (image work : List ℕ) (k at way : ℕ) (due : ConstraintDue image wor
               c .stays j q t ∙ o .stays j (λ x y. p x (omega arith)) ∙ a .stays j (λ x y. p (omega arith) y);
         }
 
-  -- the same as the code does it, where z is the record's length
-  module _ (z n : ℕ) (f : z ≡ fieldAt image at) (e : n ≡ fieldAt image (at + 2)) where
-    pub alternatives-due : (u : List ℕ) → length u ≡ length work → AlternativesDue image u (way + wayWidth * n) (at + 4 + 2 * n) (at + 2 + z)
-    alternatives-due u q = subst (λ (y : ℕ). AlternativesDue image u (way + wayWidth * n) (at + 4 + 2 * n) (at + 2 + y)) (sym f) (constraint-counted n e .alternatives-due u q)
+  -- the same as the code does it, where `size` is the record's length
+  module _ (size count : ℕ) (sized : size ≡ fieldAt image at) (counted : count ≡ fieldAt image (at + 2)) where
+    pub alternatives-due : (u : List ℕ) → length u ≡ length work → AlternativesDue image u (way + wayWidth * count) (at + 4 + 2 * count) (at + 2 + size)
+    alternatives-due u q = subst (λ (y : ℕ). AlternativesDue image u (way + wayWidth * count) (at + 4 + 2 * count) (at + 2 + y)) (sym sized) (constraint-counted count counted .alternatives-due u q)
 
-    pub constraint-done : (u₁ u₂ after : List ℕ) (way′ next link : ℕ) → AlternativesLaid image work (way + wayWidth * n) (at + 4 + 2 * n) (at + 2 + z) u₁ way′ → next ≡ linkTo (way + wayWidth * n) (at + 4 + 2 * n) (at + 2 + z)
-        → OppositesLaid image u₁ way (at + 4) n next u₂ link → RecordLaid u₂ k link after → ConstraintLaid image work k way after (at + 2 + z) way′
+    pub constraint-done : (u₁ u₂ after : List ℕ) (way′ next link : ℕ) → AlternativesLaid image work (way + wayWidth * count) (at + 4 + 2 * count) (at + 2 + size) u₁ way′ → next ≡ linkTo (way + wayWidth * count) (at + 4 + 2 * count) (at + 2 + size)
+        → OppositesLaid image u₁ way (at + 4) count next u₂ link → RecordLaid u₂ constraint link after → ConstraintLaid image work constraint way after (at + 2 + size) way′
     constraint-done u₁ u₂ after way′ next link =
         subst
-        (λ (y : ℕ). AlternativesLaid image work (way + wayWidth * n) (at + 4 + 2 * n) (at + 2 + y) u₁ way′ → next ≡ linkTo (way + wayWidth * n) (at + 4 + 2 * n) (at + 2 + y)
-        → OppositesLaid image u₁ way (at + 4) n next u₂ link → RecordLaid u₂ k link after → ConstraintLaid image work k way after (at + 2 + y) way′)
-        (sym f) (constraint-laid n e u₁ u₂ after way′ next link)
+        (λ (y : ℕ). AlternativesLaid image work (way + wayWidth * count) (at + 4 + 2 * count) (at + 2 + y) u₁ way′ → next ≡ linkTo (way + wayWidth * count) (at + 4 + 2 * count) (at + 2 + y)
+        → OppositesLaid image u₁ way (at + 4) count next u₂ link → RecordLaid u₂ constraint link after → ConstraintLaid image work constraint way after (at + 2 + y) way′)
+        (sym sized) (constraint-laid count counted u₁ u₂ after way′ next link)
 
 -- ---- all constraints
 

@@ -339,17 +339,17 @@ module _ (image work after₁ after₂ after : List ℕ) (ready : Ready image wo
 
 -- ---- the tables, as the code fills them
 
-module _ (image work : List ℕ) (ready : Ready image work) (clauses : ℕ) (g : clauses ≡ clauseCountAt image) where
+module _ (image work : List ℕ) (ready : Ready image work) (clauses : ℕ) (is-clauses : clauses ≡ clauseCountAt image) where
   pub tables-front : (clauses + 2 ≤ length image) × Short image
-  tables-front = (omega (arith, g, clauses-fit image (ready .book)), front image (ready .book) .short)
+  tables-front = (omega (arith, is-clauses, clauses-fit image (ready .book)), front image (ready .book) .short)
 
-  module _ (count : ℕ) (n : count ≡ fieldAt image clauses) where
+  module _ (count : ℕ) (is-count : count ≡ fieldAt image clauses) where
     counted : count ≡ length (bookIn image .clauses)
-    counted = n ∙ ap (fieldAt image) g ∙ shown image (bookIn image) (ready .book) .clauses
+    counted = is-count ∙ ap (fieldAt image) is-clauses ∙ shown image (bookIn image) (ready .book) .clauses
 
     pub clauses-asked : ClausesDue image work (clauses + 2) count
     unfolding skip
-    clauses-asked = record { book = ready .book; place = ap (λ (k : ℕ). k + 2) g; counted = counted; long = ready .long }
+    clauses-asked = record { book = ready .book; place = ap (λ (k : ℕ). k + 2) is-clauses; counted = counted; long = ready .long }
 
     module _ (after₁ : List ℕ) (at way : ℕ) (laid : ClausesLaid image work after₁ count at way) where
       pub links-asked : Unlinked after₁ count
@@ -366,12 +366,12 @@ module _ (image work : List ℕ) (ready : Ready image work) (clauses : ℕ) (g :
 
       constraints-place : at ≡ constraintCountAt image
       unfolding constraintCountAt
-      constraints-place = laid .place ∙ ap (clausePlace image) (n ∙ ap (fieldAt image) g)
+      constraints-place = laid .place ∙ ap (clausePlace image) (is-count ∙ ap (fieldAt image) is-clauses)
 
       pub constraints-front : (at + 2 ≤ length image) × Short image
       constraints-front = (omega (arith, constraints-place, shown image (bookIn image) (ready .book) .fits), front image (ready .book) .short)
 
-      module _ (after₂ : List ℕ) (linked : Linked after₁ count after₂ 0) (many : ℕ) (m : many ≡ fieldAt image at) where
+      module _ (after₂ : List ℕ) (linked : Linked after₁ count after₂ 0) (many : ℕ) (is-many : many ≡ fieldAt image at) where
         way-is : way ≡ constraintWays (bookIn image) 0
         way-is =
             let from : way ≡ breakWays (bookIn image) (length (bookIn image .clauses)) = laid .way-is ∙ ap (breakWays (bookIn image)) counted in
@@ -383,7 +383,7 @@ module _ (image work : List ℕ) (ready : Ready image work) (clauses : ℕ) (g :
           book = ready .book;
           place = ap (λ (k : ℕ). k + 2) constraints-place;
           way-is = way-is;
-          counted = m ∙ ap (fieldAt image) constraints-place ∙ shown image (bookIn image) (ready .book) .constraints;
+          counted = is-many ∙ ap (fieldAt image) constraints-place ∙ shown image (bookIn image) (ready .book) .constraints;
           long = omega (arith, linked .size, laid .size, ready .long);
         }
 

@@ -24,62 +24,62 @@ module _ (work : List ℕ) (run : Run) (pre : Tasked work run) (lit : run .task 
       subst (λ (p : Run). Visited work run v p) (sym e)
       (record { holds = f; some = λ image b x rest h. Visit.has-task h (pre .state) (run .task) refl lit; state = st; nodes = n; count = c; later = l })
 
-  module _ (y : ℕ) (yt : y ≡ run .task) where
-    pub so-visited : (q : Run) → getD work (y / 2) 0 ≡ y + 1 → q ≡ inState run AGENDA → Visited work run work q
-    so-visited q m e = visited work (inState run AGENDA) q e (omega arith) refl refl refl (λ image b x rest h. Visit.want-so h (pre .state) y yt lit m)
+  module _ (wanted : ℕ) (is-task : wanted ≡ run .task) where
+    pub so-visited : (q : Run) → getD work (wanted / 2) 0 ≡ wanted + 1 → q ≡ inState run AGENDA → Visited work run work q
+    so-visited q m e = visited work (inState run AGENDA) q e (omega arith) refl refl refl (λ image b x rest h. Visit.want-so h (pre .state) wanted is-task lit m)
 
-    pub refused-visited : (q : Run) → (getD work (y / 2) 0 ≡ layout.noMark → ⊥) → (getD work (y / 2) 0 ≡ y + 1 → ⊥) → q ≡ inState run FAILED → Visited work run work q
-    refused-visited q m n e = visited work (inState run FAILED) q e (omega arith) refl refl refl (λ image b x rest h. Visit.want-refused h (pre .state) y yt lit m n)
+    pub refused-visited : (q : Run) → (getD work (wanted / 2) 0 ≡ layout.noMark → ⊥) → (getD work (wanted / 2) 0 ≡ wanted + 1 → ⊥) → q ≡ inState run FAILED → Visited work run work q
+    refused-visited q m n e = visited work (inState run FAILED) q e (omega arith) refl refl refl (λ image b x rest h. Visit.want-refused h (pre .state) wanted is-task lit m n)
 
-    pub fails-visited : (q : Run) → getD work (y / 2) 0 ≡ layout.noMark → getD work (layout.literals + y) 0 ≡ layout.fails → q ≡ inState run FAILED → Visited work run work q
-    fails-visited q m z e = visited work (inState run FAILED) q e (omega arith) refl refl refl (λ image b x rest h. Visit.want-fails h (pre .state) y yt lit m z)
+    pub fails-visited : (q : Run) → getD work (wanted / 2) 0 ≡ layout.noMark → getD work (layout.literals + wanted) 0 ≡ layout.fails → q ≡ inState run FAILED → Visited work run work q
+    fails-visited q m z e = visited work (inState run FAILED) q e (omega arith) refl refl refl (λ image b x rest h. Visit.want-fails h (pre .state) wanted is-task lit m z)
 
-module _ (work : List ℕ) (run : Run) (y a : ℕ) (pre : FreeLiteral work run y a) where
-  pub put-markable : Markable work run y
-  put-markable = let t = pre .tasked in Visit.want-markable (t .holds) (t .state) y (pre .is) (pre .lit) (pre .free)
+module _ (work : List ℕ) (run : Run) (wanted number : ℕ) (pre : FreeLiteral work run wanted number) where
+  pub put-markable : Markable work run wanted
+  put-markable = let t = pre .tasked in Visit.want-markable (t .holds) (t .state) wanted (pre .is) (pre .lit) (pre .free)
 
-  module _ (v : List ℕ) (p : Run) (k : Marked work run y v p) where
-    moved-later : drop layout.end (markedWith work run y) ≡ drop layout.end work
-    moved-later = let t = pre .tasked in Visit.later-same (t .holds) (t .state) y (pre .is) (pre .lit) (pre .free)
+  module _ (after : List ℕ) (run′ : Run) (marked : Marked work run wanted after run′) where
+    moved-later : drop layout.end (markedWith work run wanted) ≡ drop layout.end work
+    moved-later = let t = pre .tasked in Visit.later-same (t .holds) (t .state) wanted (pre .is) (pre .lit) (pre .free)
 
-    in-area : (q : Run) → Visited work run (markedWith work run y) q → Visited work run v q
-    in-area q x = subst (λ (l : List ℕ). Visited work run l q) (sym (k .area)) x
+    in-area : (q : Run) → Visited work run (markedWith work run wanted) q → Visited work run after q
+    in-area q x = subst (λ (l : List ℕ). Visited work run l q) (sym (marked .area)) x
 
-    pub put-fits : a ≡ layout.joinsSet → (y / 2 < limits .abducibles) × (p .set + 2 ^ (y / 2) < bits64)
+    pub put-fits : number ≡ layout.joinsSet → (wanted / 2 < limits .abducibles) × (run′ .set + 2 ^ (wanted / 2) < bits64)
     put-fits z =
         let t = pre .tasked in
-        let f = Visit.set-fits (t .holds) (t .state) y (pre .is) (pre .lit) (pre .free) (sym (pre .number) ∙ z) in
-        (f .0, subst (λ (o : Run). o .set + 2 ^ (y / 2) < bits64) (sym (k .is)) (f .1))
+        let f = Visit.set-fits (t .holds) (t .state) wanted (pre .is) (pre .lit) (pre .free) (sym (pre .number) ∙ z) in
+        (f .0, subst (λ (o : Run). o .set + 2 ^ (wanted / 2) < bits64) (sym (marked .is)) (f .1))
 
-    pub assumed-visited : (t q : Run) → a ≡ layout.joinsSet → t ≡ adding p (y / 2) → q ≡ inState t AGENDA → Visited work run v q
+    pub assumed-visited : (t q : Run) → number ≡ layout.joinsSet → t ≡ adding run′ (wanted / 2) → q ≡ inState t AGENDA → Visited work run after q
     assumed-visited t q z i e =
         in-area q
-        (visited work run (pre .tasked) (pre .lit) (markedWith work run y) (inState (adding (raised run) (y / 2)) AGENDA) q (e ∙ ap (λ (o : Run). inState o AGENDA) (i ∙ ap (λ (o : Run). adding o (y / 2)) (k .is))) (omega arith) refl refl moved-later
-        (λ image b x rest h. Visit.put-assumed h (pre .tasked .state) y (pre .is) (pre .lit) (pre .free) (sym (pre .number) ∙ z)))
+        (visited work run (pre .tasked) (pre .lit) (markedWith work run wanted) (inState (adding (raised run) (wanted / 2)) AGENDA) q (e ∙ ap (λ (o : Run). inState o AGENDA) (i ∙ ap (λ (o : Run). adding o (wanted / 2)) (marked .is))) (omega arith) refl refl moved-later
+        (λ image b x rest h. Visit.put-assumed h (pre .tasked .state) wanted (pre .is) (pre .lit) (pre .free) (sym (pre .number) ∙ z)))
 
-    pub plain-visited : (q : Run) → a ≡ layout.joins → q ≡ inState p AGENDA → Visited work run v q
+    pub plain-visited : (q : Run) → number ≡ layout.joins → q ≡ inState run′ AGENDA → Visited work run after q
     plain-visited q z e =
         in-area q
-        (visited work run (pre .tasked) (pre .lit) (markedWith work run y) (inState (raised run) AGENDA) q (e ∙ ap (λ (o : Run). inState o AGENDA) (k .is)) (omega arith) refl refl moved-later
-        (λ image b x rest h. Visit.put-plain h (pre .tasked .state) y (pre .is) (pre .lit) (pre .free) (sym (pre .number) ∙ z)))
+        (visited work run (pre .tasked) (pre .lit) (markedWith work run wanted) (inState (raised run) AGENDA) q (e ∙ ap (λ (o : Run). inState o AGENDA) (marked .is)) (omega arith) refl refl moved-later
+        (λ image b x rest h. Visit.put-plain h (pre .tasked .state) wanted (pre .is) (pre .lit) (pre .free) (sym (pre .number) ∙ z)))
 
-    pub put-layable : Layable v p
+    pub put-layable : Layable after run′
     put-layable =
         let t = pre .tasked in
-        subst₂ (λ (l : List ℕ) (o : Run). Layable l o) (sym (k .area)) (sym (k .is))
-        (Visit.want-layable (t .holds) (t .state) y (pre .is) (pre .lit) (pre .free))
+        subst₂ (λ (l : List ℕ) (o : Run). Layable l o) (sym (marked .area)) (sym (marked .is))
+        (Visit.want-layable (t .holds) (t .state) wanted (pre .is) (pre .lit) (pre .free))
 
-    pub denied-visited : (u : List ℕ) (l : ℕ) (q : Run) → (a ≡ layout.joins → ⊥) → y % 2 ≡ 1 → LaidDown v p u l → q ≡ placing p (recordAgenda a l) → Visited work run u q
+    pub denied-visited : (u : List ℕ) (l : ℕ) (q : Run) → (number ≡ layout.joins → ⊥) → wanted % 2 ≡ 1 → LaidDown after run′ u l → q ≡ placing run′ (recordAgenda number l) → Visited work run u q
     denied-visited u l q n o d e =
         let t = pre .tasked in
-        let d′ : LaidDown (markedWith work run y) (raised run) u l = subst₂ (λ (m : List ℕ) (g : Run). LaidDown m g u l) (k .area) (k .is) d in
-        visited work run (pre .tasked) (pre .lit) u (placing (raised run) (recordAgenda (getD work (layout.literals + y) 0) l)) q (e ∙ ap₂ (λ (g : Run) (m : ℕ). placing g (recordAgenda m l)) (k .is) (pre .number)) (omega arith) refl refl
-        (Visit.denied-later (t .holds) (t .state) y (pre .is) (pre .lit) (pre .free) u l d′)
-        (λ image b x rest h. Visit.put-denied h (pre .tasked .state) y (pre .is) (pre .lit) (pre .free) u l o (λ z. n (pre .number ∙ z)) d′)
+        let d′ : LaidDown (markedWith work run wanted) (raised run) u l = subst₂ (λ (m : List ℕ) (g : Run). LaidDown m g u l) (marked .area) (marked .is) d in
+        visited work run (pre .tasked) (pre .lit) u (placing (raised run) (recordAgenda (getD work (layout.literals + wanted) 0) l)) q (e ∙ ap₂ (λ (g : Run) (m : ℕ). placing g (recordAgenda m l)) (marked .is) (pre .number)) (omega arith) refl refl
+        (Visit.denied-later (t .holds) (t .state) wanted (pre .is) (pre .lit) (pre .free) u l d′)
+        (λ image b x rest h. Visit.put-denied h (pre .tasked .state) wanted (pre .is) (pre .lit) (pre .free) u l o (λ z. n (pre .number ∙ z)) d′)
 
-    pub proved-visited : (q : Run) → (a ≡ layout.joinsSet → ⊥) → (y % 2 ≡ 1 → ⊥) → q ≡ giving p WAY a → Visited work run v q
+    pub proved-visited : (q : Run) → (number ≡ layout.joinsSet → ⊥) → (wanted % 2 ≡ 1 → ⊥) → q ≡ giving run′ WAY number → Visited work run after q
     proved-visited q t o e =
-        let even : y % 2 ≡ 0 = omega (arith, o) in
+        let even : wanted % 2 ≡ 0 = omega (arith, o) in
         in-area q
-        (visited work run (pre .tasked) (pre .lit) (markedWith work run y) (giving (raised run) WAY (getD work (layout.literals + y) 0)) q (e ∙ ap₂ (λ (g : Run) (m : ℕ). giving g WAY m) (k .is) (pre .number)) (omega arith) refl refl moved-later
-        (λ image b x rest h. Visit.put-proved h (pre .tasked .state) y (pre .is) (pre .lit) (pre .free) even (λ z. pre .some (pre .number ∙ z)) (λ z. t (pre .number ∙ z))))
+        (visited work run (pre .tasked) (pre .lit) (markedWith work run wanted) (giving (raised run) WAY (getD work (layout.literals + wanted) 0)) q (e ∙ ap₂ (λ (g : Run) (m : ℕ). giving g WAY m) (marked .is) (pre .number)) (omega arith) refl refl moved-later
+        (λ image b x rest h. Visit.put-proved h (pre .tasked .state) wanted (pre .is) (pre .lit) (pre .free) even (λ z. pre .some (pre .number ∙ z)) (λ z. t (pre .number ∙ z))))

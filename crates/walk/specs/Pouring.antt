@@ -27,52 +27,52 @@ seen-fault f (fault m at) n p e =
     let r : at ≡ p = cc in
     ap₂ fault q r
 
-module _ {A : Type 0} (w : ℕ → Walk A) (weight : A → ℕ) where
+module _ {A : Type 0} (walk : ℕ → Walk A) (weight : A → ℕ) where
   joins : (x : A) (total : ℕ) (st : Step (List A))
       → seen (λ xs. total + sum weight xs) (after st (λ xs. give (x ∷ xs))) ≡ seen (λ xs. total + weight x + sum weight xs) st
   joins x total (found xs at) = let q : total + (weight x + sum weight xs) ≡ total + weight x + sum weight xs = omega arith in ap (λ (k : ℕ). found k at) q
   joins x total (fault n at) = refl
 
-  more : (n total at y next : ℕ) → seen weight (w total at) ≡ found y next → poured w weight (suc n) total at ≡ poured w weight n (total + y) next
+  more : (n total at y next : ℕ) → seen weight (walk total at) ≡ found y next → poured walk weight (suc n) total at ≡ poured walk weight n (total + y) next
   unfolding poured running
   more n total at y next e =
-      let f = seen-found weight (w total at) y next e in
-      ap (λ (st : Step A). seen (λ xs. total + sum weight xs) (after st (λ x at′. after (running w weight n (total + weight x) at′) (λ xs. give (x ∷ xs))))) (f .1)
-      ∙ joins (f .0) total (running w weight n (total + weight (f .0)) next)
-      ∙ ap (λ (k : ℕ). poured w weight n (total + k) next) (f .2)
+      let f = seen-found weight (walk total at) y next e in
+      ap (λ (st : Step A). seen (λ xs. total + sum weight xs) (after st (λ x at′. after (running walk weight n (total + weight x) at′) (λ xs. give (x ∷ xs))))) (f .1)
+      ∙ joins (f .0) total (running walk weight n (total + weight (f .0)) next)
+      ∙ ap (λ (k : ℕ). poured walk weight n (total + k) next) (f .2)
 
-  broken : (n total at m p : ℕ) → seen weight (w total at) ≡ fault m p → poured w weight (suc n) total at ≡ fault m p
+  broken : (n total at m p : ℕ) → seen weight (walk total at) ≡ fault m p → poured walk weight (suc n) total at ≡ fault m p
   unfolding poured running
   broken n total at m p e =
-      ap (λ (st : Step A). seen (λ xs. total + sum weight xs) (after st (λ x at′. after (running w weight n (total + weight x) at′) (λ xs. give (x ∷ xs)))))
-      (seen-fault weight (w total at) m p e)
+      ap (λ (st : Step A). seen (λ xs. total + sum weight xs) (after st (λ x at′. after (running walk weight n (total + weight x) at′) (λ xs. give (x ∷ xs)))))
+      (seen-fault weight (walk total at) m p e)
 
-  pub poured-done : (n i total at : ℕ) → n ≤ i → poured w weight (n - i) total at ≡ found total at
+  pub poured-done : (n i total at : ℕ) → n ≤ i → poured walk weight (n - i) total at ≡ found total at
   unfolding poured running
   poured-done n i total at h =
       let none : n - i ≡ 0 = omega arith in
       let same : total + 0 ≡ total = omega arith in
-      ap (λ (k : ℕ). poured w weight k total at) none ∙ ap (λ (k : ℕ). found k at) same
+      ap (λ (k : ℕ). poured walk weight k total at) none ∙ ap (λ (k : ℕ). found k at) same
 
-  pub poured-more : (n i total at y next : ℕ) → i < n → seen weight (w total at) ≡ found y next
-      → poured w weight (n - i) total at ≡ poured w weight (n - (i + 1)) (total + y) next
+  pub poured-more : (n i total at y next : ℕ) → i < n → seen weight (walk total at) ≡ found y next
+      → poured walk weight (n - i) total at ≡ poured walk weight (n - (i + 1)) (total + y) next
   poured-more n i total at y next h e =
       let left : n - i ≡ suc (n - (i + 1)) = omega arith in
-      ap (λ (k : ℕ). poured w weight k total at) left ∙ more (n - (i + 1)) total at y next e
+      ap (λ (k : ℕ). poured walk weight k total at) left ∙ more (n - (i + 1)) total at y next e
 
-  pub poured-fault : (n i total at m p : ℕ) → i < n → seen weight (w total at) ≡ fault m p → poured w weight (n - i) total at ≡ fault m p
+  pub poured-fault : (n i total at m p : ℕ) → i < n → seen weight (walk total at) ≡ fault m p → poured walk weight (n - i) total at ≡ fault m p
   poured-fault n i total at m p h e =
       let left : n - i ≡ suc (n - (i + 1)) = omega arith in
-      ap (λ (k : ℕ). poured w weight k total at) left ∙ broken (n - (i + 1)) total at m p e
+      ap (λ (k : ℕ). poured walk weight k total at) left ∙ broken (n - (i + 1)) total at m p e
 
   -- the same, where a record is seen as the new total
-  pub poured-total : (n i total at y next : ℕ) → i < n → seen (λ x. total + weight x) (w total at) ≡ found y next
-      → poured w weight (n - i) total at ≡ poured w weight (n - (i + 1)) y next
+  pub poured-total : (n i total at y next : ℕ) → i < n → seen (λ x. total + weight x) (walk total at) ≡ found y next
+      → poured walk weight (n - i) total at ≡ poured walk weight (n - (i + 1)) y next
   poured-total n i total at y next h e =
-      let f = seen-found (λ x. total + weight x) (w total at) y next e in
-      poured-more n i total at (weight (f .0)) next h (ap (seen weight) (f .1)) ∙ ap (λ (k : ℕ). poured w weight (n - (i + 1)) k next) (f .2)
+      let f = seen-found (λ x. total + weight x) (walk total at) y next e in
+      poured-more n i total at (weight (f .0)) next h (ap (seen weight) (f .1)) ∙ ap (λ (k : ℕ). poured walk weight (n - (i + 1)) k next) (f .2)
 
-  pub poured-total-fault : (n i total at m p : ℕ) → i < n → seen (λ x. total + weight x) (w total at) ≡ fault m p
-      → poured w weight (n - i) total at ≡ fault m p
+  pub poured-total-fault : (n i total at m p : ℕ) → i < n → seen (λ x. total + weight x) (walk total at) ≡ fault m p
+      → poured walk weight (n - i) total at ≡ fault m p
   poured-total-fault n i total at m p h e =
-      poured-fault n i total at m p h (ap (seen weight) (seen-fault (λ x. total + weight x) (w total at) m p e))
+      poured-fault n i total at m p h (ap (seen weight) (seen-fault (λ x. total + weight x) (walk total at) m p e))

@@ -38,24 +38,24 @@ counted weight make e (found ls at) =
     ap (λ (n : ℕ). found n at) q
 counted weight make e (fault n at) = refl
 
-module _ (s : List ℕ) (most : Limits) (atoms abducibles total at : ℕ) where
+module _ (image : List ℕ) (most : Limits) (atoms abducibles total at : ℕ) where
   abbrev clauseSize : Step ℕ
-  clauseSize = field s (wrongClause (length s - (at + 2)) (most .bodies) total) at
+  clauseSize = field image (wrongClause (length image - (at + 2)) (most .bodies) total) at
 
-  pub clause-no-size : {n p : ℕ} → clauseSize ≡ fault n p → clause s most atoms abducibles total at ≡ fault n p
+  pub clause-no-size : {n p : ℕ} → clauseSize ≡ fault n p → clause image most atoms abducibles total at ≡ fault n p
   unfolding clause
   clause-no-size e = rw e
 
-  pub clause-no-head : {size head n p : ℕ} → clauseSize ≡ found size head → field s (wrongHead atoms abducibles) head ≡ fault n p
-      → clause s most atoms abducibles total at ≡ fault n p
+  pub clause-no-head : {size head n p : ℕ} → clauseSize ≡ found size head → field image (wrongHead atoms abducibles) head ≡ fault n p
+      → clause image most atoms abducibles total at ≡ fault n p
   unfolding clause
   clause-no-head e f = rw (e, f)
 
-  pub clause-seen : {size head x body : ℕ} → clauseSize ≡ found size head → field s (wrongHead atoms abducibles) head ≡ found x body
-      → seen bodyCount (clause s most atoms abducibles total at) ≡ poured (λ _. literal s atoms) (λ _. 1) (bodyOf size) 0 body
+  pub clause-seen : {size head x body : ℕ} → clauseSize ≡ found size head → field image (wrongHead atoms abducibles) head ≡ found x body
+      → seen bodyCount (clause image most atoms abducibles total at) ≡ poured (λ _. literal image atoms) (λ _. 1) (bodyOf size) 0 body
   unfolding clause poured
   clause-seen {size = size} {x = x} {body = body} e f =
-      rw (e, f) (counted bodyCount (λ ls. record { head = x; body = ls }) (λ ls. refl) (times (literal s atoms) (bodyOf size) body))
+      rw (e, f) (counted bodyCount (λ ls. record { head = x; body = ls }) (λ ls. refl) (times (literal image atoms) (bodyOf size) body))
 
 -- what a record weighs stays within the limit of its total
 pub clause-total : (s : List ℕ) (most : Limits) (atoms abducibles total at y next : ℕ)
@@ -72,19 +72,19 @@ constraint-total s most atoms total at y next e =
 
 -- ---- an alternative, and all of a record
 
-module _ (s : List ℕ) (most : Limits) (atoms end : ℕ) where
+module _ (image : List ℕ) (most : Limits) (atoms end : ℕ) where
   abbrev wayCount : ℕ → ℕ → Step ℕ
-  wayCount total at = field s (wrongAlternative (end - (at + 2)) (most .literals) total) at
+  wayCount total at = field image (wrongAlternative (end - (at + 2)) (most .literals) total) at
 
-  pub way-no-count : (total at : ℕ) {n p : ℕ} → wayCount total at ≡ fault n p → alternative s most atoms end total at ≡ fault n p
+  pub way-no-count : (total at : ℕ) {n p : ℕ} → wayCount total at ≡ fault n p → alternative image most atoms end total at ≡ fault n p
   unfolding alternative
   way-no-count total at e = rw e
 
   pub way-seen : (total at : ℕ) {count next : ℕ} → wayCount total at ≡ found count next
-      → seen length (alternative s most atoms end total at) ≡ poured (λ _. literal s atoms) (λ _. 1) count 0 next
+      → seen length (alternative image most atoms end total at) ≡ poured (λ _. literal image atoms) (λ _. 1) count 0 next
   unfolding alternative poured
   way-seen total at {count = count} {next = next} e =
-      ap (λ (st : Step ℕ). seen length (after st (λ n. times (literal s atoms) n))) e ∙ go (times (literal s atoms) count next)
+      ap (λ (st : Step ℕ). seen length (after st (λ n. times (literal image atoms) n))) e ∙ go (times (literal image atoms) count next)
     where
       go : (st : Step (List Lit)) → seen length st ≡ seen (λ ls. 0 + sum (λ _. 1) ls) st
       go (found ls m) =
@@ -99,10 +99,10 @@ module _ (s : List ℕ) (most : Limits) (atoms end : ℕ) where
     pub on : at + 2 ≤ next
     pub within : next ≤ end
 
-  pub way-ahead : (total at y next : ℕ) → seen length (alternative s most atoms end total at) ≡ found y next → Ahead total at y next
+  pub way-ahead : (total at y next : ℕ) → seen length (alternative image most atoms end total at) ≡ found y next → Ahead total at y next
   way-ahead total at y next e =
-      let f = seen-found length (alternative s most atoms end total at) y next e in
-      let r = alternative-finds s most atoms end total at (f .0) next (f .1) in
+      let f = seen-found length (alternative image most atoms end total at) y next e in
+      let r = alternative-finds image most atoms end total at (f .0) next (f .1) in
       let n : length (f .0) ≡ y = f .2 in
       let b : next ≡ at + 2 * suc (length (ofLits (f .0))) = r .behind in
       let t : total + length (f .0) ≤ most .literals = r .fits in
@@ -110,7 +110,7 @@ module _ (s : List ℕ) (most : Limits) (atoms end : ℕ) where
 
   -- the alternatives from here on, seen as the sum of all literals, those from before included
   unfoldable pub waysSeen : ℕ → ℕ → Walk ℕ
-  waysSeen n total at = seen (λ ways. total + sum length ways) (alternatives s most atoms end n total at)
+  waysSeen n total at = seen (λ ways. total + sum length ways) (alternatives image most atoms end n total at)
 
   pub ways-done : (n total at : ℕ) → end ≤ at → waysSeen n total at ≡ found total at
   unfolding waysSeen alternatives
@@ -120,27 +120,27 @@ module _ (s : List ℕ) (most : Limits) (atoms end : ℕ) where
       ap (seen (λ ways. total + sum length ways)) (choose-false _ _ (le-ltb at end h)) ∙ ap (λ (k : ℕ). found k at) q
 
   ways-step : (n total at : ℕ) → at < end
-      → alternatives s most atoms end (suc n) total at
-      ≡ after (alternative s most atoms end total at) (λ ls at′. after (alternatives s most atoms end n (total + length ls) at′) (λ ways. give (ls ∷ ways)))
+      → alternatives image most atoms end (suc n) total at
+      ≡ after (alternative image most atoms end total at) (λ ls at′. after (alternatives image most atoms end n (total + length ls) at′) (λ ways. give (ls ∷ ways)))
   unfolding alternatives
   ways-step n total at h = choose-true _ _ (lt-ltb at end h)
 
-  pub ways-fault : (n total at m p : ℕ) → at < end → seen length (alternative s most atoms end total at) ≡ fault m p → waysSeen (suc n) total at ≡ fault m p
+  pub ways-fault : (n total at m p : ℕ) → at < end → seen length (alternative image most atoms end total at) ≡ fault m p → waysSeen (suc n) total at ≡ fault m p
   unfolding waysSeen
   ways-fault n total at m p h e =
       ap (seen (λ ways. total + sum length ways)) (ways-step n total at h)
-      ∙ ap (λ (st : Step (List Lit)). seen (λ ways. total + sum length ways) (after st (λ ls at′. after (alternatives s most atoms end n (total + length ls) at′) (λ ways. give (ls ∷ ways)))))
-      (seen-fault length (alternative s most atoms end total at) m p e)
+      ∙ ap (λ (st : Step (List Lit)). seen (λ ways. total + sum length ways) (after st (λ ls at′. after (alternatives image most atoms end n (total + length ls) at′) (λ ways. give (ls ∷ ways)))))
+      (seen-fault length (alternative image most atoms end total at) m p e)
 
-  pub ways-more : (n total at y next : ℕ) → at < end → seen length (alternative s most atoms end total at) ≡ found y next
+  pub ways-more : (n total at y next : ℕ) → at < end → seen length (alternative image most atoms end total at) ≡ found y next
       → waysSeen (suc n) total at ≡ waysSeen n (total + y) next
   unfolding waysSeen
   ways-more n total at y next h e =
-      let f = seen-found length (alternative s most atoms end total at) y next e in
+      let f = seen-found length (alternative image most atoms end total at) y next e in
       ap (seen (λ ways. total + sum length ways)) (ways-step n total at h)
-      ∙ ap (λ (st : Step (List Lit)). seen (λ ways. total + sum length ways) (after st (λ ls at′. after (alternatives s most atoms end n (total + length ls) at′) (λ ways. give (ls ∷ ways)))))
+      ∙ ap (λ (st : Step (List Lit)). seen (λ ways. total + sum length ways) (after st (λ ls at′. after (alternatives image most atoms end n (total + length ls) at′) (λ ways. give (ls ∷ ways)))))
       (f .1)
-      ∙ joins (f .0) (alternatives s most atoms end n (total + length (f .0)) next)
+      ∙ joins (f .0) (alternatives image most atoms end n (total + length (f .0)) next)
       ∙ ap (λ (k : ℕ). waysSeen n (total + k) next) (f .2)
     where
       joins : (ls : List Lit) (st : Step (List (List Lit)))
@@ -151,36 +151,36 @@ module _ (s : List ℕ) (most : Limits) (atoms end : ℕ) where
       joins ls (fault n p) = refl
 
 -- From `start` with `before` literals the walk comes to `at` with `total`, whatever number of fields it was told.
-module _ (s : List ℕ) (most : Limits) (atoms end before start : ℕ) where
+module _ (image : List ℕ) (most : Limits) (atoms end before start : ℕ) where
   abbrev pub Onward : ℕ → ℕ → Type 0
   Onward total at =
-      (n : ℕ) → end ≤ start + 2 * n → (m : ℕ) × (end ≤ at + 2 * m) × (waysSeen s most atoms end n before start ≡ waysSeen s most atoms end m total at)
+      (n : ℕ) → end ≤ start + 2 * n → (m : ℕ) × (end ≤ at + 2 * m) × (waysSeen image most atoms end n before start ≡ waysSeen image most atoms end m total at)
 
   pub onward-start : Onward before start
   onward-start n h = (n, h, refl)
 
-  pub onward-more : (total at y next : ℕ) → Onward total at → at < end → seen length (alternative s most atoms end total at) ≡ found y next
+  pub onward-more : (total at y next : ℕ) → Onward total at → at < end → seen length (alternative image most atoms end total at) ≡ found y next
       → Onward (total + y) next
   onward-more total at y next o h e n k = go (o n k .0) (o n k .1) (o n k .2)
     where
-      go : (m : ℕ) → end ≤ at + 2 * m → waysSeen s most atoms end n before start ≡ waysSeen s most atoms end m total at
-          → (j : ℕ) × (end ≤ next + 2 * j) × (waysSeen s most atoms end n before start ≡ waysSeen s most atoms end j (total + y) next)
+      go : (m : ℕ) → end ≤ at + 2 * m → waysSeen image most atoms end n before start ≡ waysSeen image most atoms end m total at
+          → (j : ℕ) × (end ≤ next + 2 * j) × (waysSeen image most atoms end n before start ≡ waysSeen image most atoms end j (total + y) next)
       go zero b q = absurd (omega arith)
       go (suc m) b q =
-          let on : at + 2 ≤ next = way-ahead s most atoms end total at y next e .on in
-          (m, omega arith, q ∙ ways-more s most atoms end m total at y next h e)
+          let on : at + 2 ≤ next = way-ahead image most atoms end total at y next e .on in
+          (m, omega arith, q ∙ ways-more image most atoms end m total at y next h e)
 
-  pub onward-fault : (total at m p : ℕ) → Onward total at → at < end → seen length (alternative s most atoms end total at) ≡ fault m p
-      → (n : ℕ) → end ≤ start + 2 * n → waysSeen s most atoms end n before start ≡ fault m p
+  pub onward-fault : (total at m p : ℕ) → Onward total at → at < end → seen length (alternative image most atoms end total at) ≡ fault m p
+      → (n : ℕ) → end ≤ start + 2 * n → waysSeen image most atoms end n before start ≡ fault m p
   onward-fault total at m p o h e n k = go (o n k .0) (o n k .1) (o n k .2)
     where
-      go : (j : ℕ) → end ≤ at + 2 * j → waysSeen s most atoms end n before start ≡ waysSeen s most atoms end j total at
-          → waysSeen s most atoms end n before start ≡ fault m p
+      go : (j : ℕ) → end ≤ at + 2 * j → waysSeen image most atoms end n before start ≡ waysSeen image most atoms end j total at
+          → waysSeen image most atoms end n before start ≡ fault m p
       go zero b q = absurd (omega arith)
-      go (suc j) b q = q ∙ ways-fault s most atoms end j total at m p h e
+      go (suc j) b q = q ∙ ways-fault image most atoms end j total at m p h e
 
-  pub onward-done : (total at : ℕ) → Onward total at → end ≤ at → (n : ℕ) → end ≤ start + 2 * n → waysSeen s most atoms end n before start ≡ found total at
-  onward-done total at o h n k = o n k .2 ∙ ways-done s most atoms end (o n k .0) total at h
+  pub onward-done : (total at : ℕ) → Onward total at → end ≤ at → (n : ℕ) → end ≤ start + 2 * n → waysSeen image most atoms end n before start ≡ found total at
+  onward-done total at o h n k = o n k .2 ∙ ways-done image most atoms end (o n k .0) total at h
 
 -- ---- a constraint
 
@@ -192,28 +192,28 @@ lits-ahead s atoms count at y next e =
     let b : next ≡ at + 2 * length (ofLits (f .0)) = finds-literals s atoms count .finds at (f .0) next (f .1) .behind in
     omega arith
 
-module _ (s : List ℕ) (most : Limits) (atoms end n total at : ℕ) where
+module _ (image : List ℕ) (most : Limits) (atoms end n total at : ℕ) where
   abbrev conditionCount : Step ℕ
-  conditionCount = field s (wrongConditions (end - (at + 2)) (most .literals) total) at
+  conditionCount = field image (wrongConditions (end - (at + 2)) (most .literals) total) at
 
-  pub inside-no-count : {m p : ℕ} → conditionCount ≡ fault m p → inside s most atoms end n total at ≡ fault m p
+  pub inside-no-count : {m p : ℕ} → conditionCount ≡ fault m p → inside image most atoms end n total at ≡ fault m p
   unfolding inside
   inside-no-count e = rw e
 
   pub inside-no-lits : {count next m p : ℕ} → conditionCount ≡ found count next
-      → poured (λ _. literal s atoms) (λ _. 1) count 0 next ≡ fault m p → inside s most atoms end n total at ≡ fault m p
+      → poured (λ _. literal image atoms) (λ _. 1) count 0 next ≡ fault m p → inside image most atoms end n total at ≡ fault m p
   unfolding inside poured
   inside-no-lits {count = count} {next = next} {m = m} {p = p} e f =
-      rw (e, seen-fault (λ ls. 0 + sum (λ _. 1) ls) (times (literal s atoms) count next) m p f)
+      rw (e, seen-fault (λ ls. 0 + sum (λ _. 1) ls) (times (literal image atoms) count next) m p f)
 
   pub inside-seen : {count next y ways : ℕ} → conditionCount ≡ found count next
-      → poured (λ _. literal s atoms) (λ _. 1) count 0 next ≡ found y ways
-      → seen (λ k. total + literalCount k) (inside s most atoms end n total at) ≡ waysSeen s most atoms end n (total + count) ways
+      → poured (λ _. literal image atoms) (λ _. 1) count 0 next ≡ found y ways
+      → seen (λ k. total + literalCount k) (inside image most atoms end n total at) ≡ waysSeen image most atoms end n (total + count) ways
   unfolding inside poured waysSeen
   inside-seen {count = count} {next = next} {y = y} {ways = ways} e f =
-      let g = seen-found (λ ls. 0 + sum (λ _. 1) ls) (times (literal s atoms) count next) y ways f in
-      let c : length (g .0) ≡ count = finds-literals s atoms count .finds next (g .0) ways (g .1) .isFine .count in
-      rw (e, g .1) (go (g .0) c (alternatives s most atoms end n (total + count) ways))
+      let g = seen-found (λ ls. 0 + sum (λ _. 1) ls) (times (literal image atoms) count next) y ways f in
+      let c : length (g .0) ≡ count = finds-literals image atoms count .finds next (g .0) ways (g .1) .isFine .count in
+      rw (e, g .1) (go (g .0) c (alternatives image most atoms end n (total + count) ways))
     where
       go : (ls : List Lit) → length ls ≡ count → (st : Step (List (List Lit)))
           → seen (λ k. total + literalCount k) (after st (λ ws. give (record { conditions = ls; alternatives = ws })))

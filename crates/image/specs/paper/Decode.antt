@@ -15,19 +15,19 @@ use Rattle.image.specs.paper.Loops.{loopFree}
 abbrev pub litOf : ℕ → Lit
 litOf x = record { atom = x / 2; sign = eqb (x % 2) 0 }
 
-module _ (s : List ℕ) where
+module _ (image : List ℕ) where
   unfoldable pub literal : ℕ → Walk Lit
   literal atoms = do
-    x ← field s (wrongLit atoms)
+    x ← field image (wrongLit atoms)
     give (litOf x)
 
   module _ (most : Limits) (atoms : ℕ) where
     -- "A clause's record: its length in bytes behind the length field itself, the head atom, the body literals."
     unfoldable pub clause : ℕ → ℕ → Walk Clause
     clause abducibles sum = do
-      left ← behind (length s)
-      size ← field s (wrongClause left (most .bodies) sum)
-      head ← field s (wrongHead atoms abducibles)
+      left ← behind (length image)
+      size ← field image (wrongClause left (most .bodies) sum)
+      head ← field image (wrongHead atoms abducibles)
       body ← times (literal atoms) (bodyOf size)
       give (record { head = head; body = body })
 
@@ -35,7 +35,7 @@ module _ (s : List ℕ) where
     unfoldable pub alternative : ℕ → ℕ → Walk (List Lit)
     alternative end sum = do
       left ← behind end
-      count ← field s (wrongAlternative left (most .literals) sum)
+      count ← field image (wrongAlternative left (most .literals) sum)
       times (literal atoms) count
 
     -- "one behind another until the record's end"; n is at least the number of fields left
@@ -50,7 +50,7 @@ module _ (s : List ℕ) where
     unfoldable pub inside : ℕ → ℕ → ℕ → Walk Constraint
     inside end n sum = do
       left ← behind end
-      count ← field s (wrongConditions left (most .literals) sum)
+      count ← field image (wrongConditions left (most .literals) sum)
       conditions ← times (literal atoms) count
       ways ← alternatives end n (sum + count)
       give (record { conditions = conditions; alternatives = ways })
@@ -58,15 +58,15 @@ module _ (s : List ℕ) where
     -- "A constraint's record: its length in bytes behind the length field itself", then its inside
     unfoldable pub constraint : ℕ → Walk Constraint
     constraint sum = do
-      left ← behind (length s)
-      size ← field s (wrongSize left)
+      left ← behind (length image)
+      size ← field image (wrongSize left)
       end ← ahead size
       inside end (size / 2) sum
 
   -- a count that may not pass its limit, then as many things
   unfoldable pub counted : {A : Type 0} → ℕ → (ℕ → Walk A) → Walk A
   counted most things = do
-    count ← field s (wrongCount most)
+    count ← field image (wrongCount most)
     things count
 
   -- "The number of clauses and their records." "The number of constraints and their records."
@@ -79,15 +79,15 @@ module _ (s : List ℕ) where
   -- "A and B." "The number of goal literals and these literals." Then clauses and constraints.
   unfoldable pub book : Limits → Walk Book
   book most = do
-    atoms ← field s (wrongAtoms (most .atoms))
-    abducibles ← field s (wrongAbducibles (most .abducibles) atoms)
+    atoms ← field image (wrongAtoms (most .atoms))
+    abducibles ← field image (wrongAbducibles (most .abducibles) atoms)
     goal ← counted (most .goal) (times (literal atoms))
     both ← clausesAndConstraints most atoms abducibles
     give (record { atoms = atoms; abducibles = abducibles; goal = goal; clauses = both .0; constraints = both .1 })
 
   -- "Bytes behind the last constraint are a 4."
   unfoldable pub ends : Walk (Unit {0})
-  ends at = choose (eqb at (length s)) (found tt at) (fault 4 at)
+  ends at = choose (eqb at (length image)) (found tt at) (fault 4 at)
 
   unfoldable pub whole : Limits → Walk Book
   whole most = do
@@ -97,15 +97,15 @@ module _ (s : List ℕ) where
 
   -- four bytes, the highest first
   unfoldable pub lengthField : ℕ
-  lengthField = fieldValues * fieldAt s lengthAt + fieldAt s (lengthAt + 2)
+  lengthField = fieldValues * fieldAt image lengthAt + fieldAt image (lengthAt + 2)
 
   -- "1 comes before 2, and 2 before 3": "the image has fewer than 5 bytes", "the version byte is not 1", "the length field is not the
   -- number of bytes behind it"
   unfoldable pub wrongFront : Finding
   wrongFront =
-      unless (leb atomsAt (length s)) 1
-      (unless (eqb (getD s versionAt 0) version) 2
-      (unless (eqb lengthField (length s - atomsAt)) 3 fine))
+      unless (leb atomsAt (length image)) 1
+      (unless (eqb (getD image versionAt 0) version) 2
+      (unless (eqb lengthField (length image - atomsAt)) 3 fine))
 
 pub data Decoded : Type 0 where
   accepted : Book → Decoded
