@@ -290,6 +290,7 @@ def try_image_faults(folder):
     fails("image, no such file", run("image", folder / "none", "-o", book), "there is no such file")
     fails("image, a folder", run("image", folder, "-o", book), "this is a folder")
     fails("image -o, a folder", run("image", rules, "-o", folder), "this is a folder")
+    fails("image -o, an empty name", run("image", rules, "-o", ""), "an empty name: this is a folder")
     fails("image -o, no such folder", run("image", rules, "-o", folder / "none/book"), "this cannot be written: No such file")
     fails("image -o, below a file", run("image", rules, "-o", rules / "book"), "Not a directory")
     fails("image -o, a device", run("image", rules, "-o", "/dev/null"), "no ordinary file")
