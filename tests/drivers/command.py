@@ -11,6 +11,7 @@ import fcntl
 import itertools
 import json
 import os
+import pty
 import shutil
 import subprocess
 import sys
@@ -19,6 +20,7 @@ from pathlib import Path
 
 from tests.stored import books
 from tests.stored.stored_read import longest
+from tests.stored.stored_text import LONGEST_BOOK, SPIKE, SPIKE_LINES, SPIKE_WIDE, padded
 
 HERE = Path(__file__).resolve().parents[2]
 COMMAND = (sys.executable, "-S", HERE / "wizogbare")
@@ -130,12 +132,195 @@ def try_json():
 
 def try_listing():
     """`list` prints what the specification's printing program does, on every book and on damaged ones."""
-    images = [path.read_bytes() for path in sorted((HERE / "books").iterdir()) if path.suffix != ".md"]
+    images = [path.read_bytes() for path in sorted((HERE / "books").iterdir()) if not path.suffix]
     images += [damaged for _, damaged in books.REFUSED] + [longest(), longest("00"), longest("00" * 300)]
     for place, each in enumerate(images):
         printed = run(HERE / "target/bin/listing", command=(HERE / "tests/run",), given=each)
         ran = run("list", "-", given=each)
         note(f"list as the printing program, image {place}", ran.out == printed.out != "", ran)
+
+
+# ---- books as text
+
+NAMED = "sets 2 nodes 15\n1: fish\n2: rock\n"
+RULES = SPIKE.encode()
+
+# Every form of a literal in a goal, and of a constraint, with the words that the judge's answer has for them.
+ALL_FORMS = (b"p. q :- abd(a). q :- abd(b). true ---> abd(a) ; abd(b), p. abd(b), naf(q) ---> naf(p)."
+             b" naf(abd(a)), p ---> abd(b) ; naf(abd(c)). abd(c) ---> false. ?- p, naf(abd(d)), naf(r), abd(e).")
+FAILING = [
+    ("d,e", "goal literal 1 is false: naf(abd(d))", {"false_goal": 1, "words": "naf(abd(d))"}),
+    ("a", "goal literal 3 is false: abd(e)", {"false_goal": 3, "words": "abd(e)"}),
+    ("e", "constraint 0 does not hold: true ---> abd(a) ; abd(b), p",
+     {"broken_constraint": 0, "words": "true ---> abd(a) ; abd(b), p"}),
+    ("a,c,e", "constraint 3 does not hold: abd(c) ---> false", {"broken_constraint": 3, "words": "abd(c) ---> false"}),
+]
+
+# A name that is the word for the empty set, and atoms with numbers that no set of 64 bits has.
+CALLED_NONE = b"x :- abd(none). x :- abd(a), abd(b). ?- x."
+MANY = b"x :- " + b", ".join(b"abd(a%d)" % j for j in range(64)) + b". ?- x, naf(y)."
+
+
+def try_rules(folder):
+    rules = folder / "rules.txt"
+    rules.write_bytes(RULES)
+    answers("list of a text", run("list", rules), NAMED)
+    answers("list of a text, standard input", run("list", "-", given=RULES), NAMED)
+    answers("list of a text from a pipe", shell(f"(head -c 9 {rules}; sleep 0.2; tail -c +10 {rules}) | ./wizogbare list -"), NAMED)
+    answers("list of a text in lines", run("list", "-", given=SPIKE_LINES.encode()), NAMED)
+    for blank in (b" ", b"\t", b"\n", b"\r"):
+        answers(f"list of a text behind {blank}", run("list", "-", given=blank + RULES), NAMED)
+    answers("list of a text of the greatest length", run("list", "-", given=padded(SPIKE, 32768).encode()), NAMED)
+    answers("list of a text, room", run("list", rules, "--room", "2", "--budget", "15"), NAMED)
+    answers("list of nothing, of a text", run("list", "-", given=b"a ---> false. ?- a."), "sets 0 nodes 1\n")
+    answers("list of the empty set, of a text", run("list", "-", given=b"a. ?- a."), "sets 1 nodes 2\n1: none\n")
+    answers("list of two names", run("list", "-", given=b"?- abd(b), abd(a)."), "sets 1 nodes 3\n1: b a\n")
+    record("list --json of a text", run("list", rules, "--json"),
+           {"answer": "listed", "sets": [["fish"], ["rock"]], "numbers": [[0], [1]], "nodes": 15})
+    answers("check of a text", run("check", rules), "accepted\n")
+    record("check --json of a text", run("check", rules, "--json"), {"answer": "accepted"})
+    answers("verdict of a text, a name", run("verdict", rules, "fish"), "possible nodes 15\n")
+    answers("verdict of a text, a number", run("verdict", rules, "2"), "ruled out nodes 15\n")
+    record("verdict --json of a text", run("verdict", rules, "bubbles", "--json"), {"answer": "ruled out", "nodes": 15})
+    for word in ("fish", "rock", "fish,rock", "fish,fish", "0,fish", "1"):
+        answers(f"judge of a text, {word}", run("judge", rules, word), "explains\n")
+    answers("judge, a member twice", run("judge", EXAMPLE, "0,0"), "explains\n")
+    answers("judge of a text, none", run("judge", rules, "none"), "does not explain: goal literal 0 is false: spike\n")
+    answers("judge of a text, constraint", run("judge", rules, "bubbles"),
+            "does not explain: constraint 0 does not hold: abd(bubbles) ---> wake\n")
+    for word, said, found in FAILING:
+        answers(f"judge in words, {word}", run("judge", "-", word, given=ALL_FORMS), f"does not explain: {said}\n")
+        ran = run("judge", "-", word, "--json", given=ALL_FORMS)
+        record(f"judge --json in words, {word}", ran, {"answer": "does not explain", **found})
+
+
+def try_names(folder):
+    rules = folder / "rules.txt"
+    fails("judge, a name that is not there", run("judge", rules, "cod"), "rules.txt: this text has no `cod`")
+    fails("judge, one name that is not there", run("judge", rules, "fish,cod,rock"), "this text has no `cod`")
+    fails("judge, a fixed word", run("judge", rules, "true"), "this text has no `true`")
+    fails("verdict, a name that is not there", run("verdict", rules, "cod"), "this text has no `cod`")
+    fails("judge of an image, a name", run("judge", EXAMPLE, "fish"), "argument SET: `fish` is no set")
+    fails("judge of an image, a name and a number", run("judge", EXAMPLE, "0,fish"), "argument SET: `0,fish` is no set")
+    fails("verdict of an image, a name", run("verdict", EXAMPLE, "fish"), "argument H: `fish` is no number from 0")
+    for word in ("Fish", "fish,", "fish rock", "_x", "x" * 32, "naf(fish)", "abd(fish)"):
+        fails(f"judge of a text, {word}", run("judge", rules, word), "is no set")
+        fails(f"verdict of a text, {word}", run("verdict", rules, word), "is no number from 0")
+    for word in ("spike", "wake", "fish,wake", "3", "4"):
+        refuses(f"judge of a text, {word}", run("judge", rules, word), "refused 23\n", "may not be assumed")
+    for word in ("spike", "4", "4294967295"):
+        refuses(f"verdict of a text, {word}", run("verdict", rules, word), "refused 23 nodes 0\n", "may not be assumed")
+    refuses("judge, atom 64", run("judge", "-", "x", given=MANY), "refused 23\n", "may not be assumed")
+    refuses("judge, atom 65 among others", run("judge", "-", "a0,y", given=MANY), "refused 23\n", "may not be assumed")
+    refuses("verdict, atom 64", run("verdict", "-", "x", given=MANY), "refused 23 nodes 0\n", "may not be assumed")
+    answers("judge, abducible 63", run("judge", "-", ",".join(f"a{j}" for j in range(64)), given=MANY), "explains\n")
+    answers("list, an abducible called none", run("list", "-", given=CALLED_NONE), "sets 2 nodes 6\n1: 0\n2: a b\n")
+    record("list --json, an abducible called none", run("list", "-", "--json", given=CALLED_NONE),
+           {"answer": "listed", "sets": [["none"], ["a", "b"]], "numbers": [[0], [1, 2]], "nodes": 6})
+    answers("judge, an abducible called none is not the empty set", run("judge", "-", "none", given=CALLED_NONE),
+            "does not explain: goal literal 0 is false: x\n")
+    answers("judge, an abducible called none by its number", run("judge", "-", "0", given=CALLED_NONE), "explains\n")
+    answers("judge, an abducible called none among others", run("judge", "-", "a,none", given=CALLED_NONE), "explains\n")
+    answers("verdict, an abducible called none", run("verdict", "-", "none", given=CALLED_NONE), "possible nodes 6\n")
+
+
+REFUSED_TEXTS = [
+    (50, b"spike :- abd(fish)", "ends in a full stop"), (50, b" ", "goal line"), (50, b"% rules\n?- a.", "no comments"),
+    (50, padded(SPIKE, 32769).encode(), "longer than 32,768 bytes"), (51, b"?- x, abd(x).", "mark it everywhere, or nowhere"),
+    (5, b"?- true.", "1 to 256 names"), (7, b"abd(x) :- y. ?- y.", "begins with abd("), (9, b"p :- naf(p). ?- p.", "depends on itself"),
+]
+
+
+def try_refused_texts(folder):
+    for number, text, part in REFUSED_TEXTS:
+        for words in (["list", "-"], ["check", "-"], ["judge", "-", "none"], ["judge", "-", "cod"], ["verdict", "-", "0"], ["image", "-"]):
+            refuses(f"{words[0]}, a text, {number}", run(*words, given=text), f"refused {number}\n", part)
+    ran = run("list", "-", "--json", given=b"?-")
+    sentence = ran.err.removeprefix("wizogbare: refused 50: ").removesuffix("\n")
+    record("list --json of a text, refused", ran, {"answer": "refused", "number": 50, "sentence": sentence}, 1)
+    rules = folder / "rules.txt"
+    refuses("a text, budget used up", run("list", rules, "--budget", "14"), "refused 30 nodes 14\n", "budget was used up")
+    refuses("a text, room", run("list", rules, "--room", "1025"), "refused 20 nodes 0\n", "(--room, at most 1,024)")
+    refuses("an empty file is an image", run("check", "-", given=b""), "refused 1\n", "shorter than 5 bytes")
+    for first in (b"\x00", b"\x0b", b"\x1f", b"\x7f", b"\x80", b"\xef"):
+        refuses(f"an image that begins with {first}", run("check", "-", given=first + RULES), "refused 2\n", "version")
+
+
+# ---- images of texts
+
+def try_image(folder):
+    rules, book = folder / "rules.txt", folder / "book"
+    answers("image -o", run("image", rules, "-o", book), "written 45 bytes\n")
+    note("the image", book.read_bytes() == books.P1, run("check", book))
+    answers("list of the image", run("list", book), LISTED)
+    book.write_bytes(b"something else")
+    record("image --json", run("image", rules, "--output", book, "--json"), {"answer": "written", "bytes": 45})
+    note("the image in place of another file", book.read_bytes() == books.P1, run("check", book))
+    for what, words, given in (("a file", [rules], b""), ("standard input", ["-"], SPIKE_WIDE.encode()), ("-o -", [rules, "-o", "-"], b"")):
+        done = subprocess.run([*COMMAND, "image", *words], cwd=HERE, input=given, stdout=subprocess.PIPE, stderr=subprocess.PIPE)
+        written = (done.returncode, done.stdout, done.stderr) == (0, books.P1, b"")
+        note(f"image to standard output, {what}", written, run("check", "-", given=done.stdout))
+    answers("image in a pipe", shell(f"./wizogbare image {rules} | ./wizogbare list -"), LISTED)
+    answers("the longest image", run("image", "-", "-o", book, given=LONGEST_BOOK.encode()), "written 8751 bytes\n")
+    answers("the longest image, more room", run("image", "-", "-o", book, "--room", "4294967295", given=LONGEST_BOOK.encode()),
+            "written 8751 bytes\n")
+    answers("image, room just enough", run("image", rules, "-o", book, "--room", "45"), "written 45 bytes\n")
+    refuses("image, room", run("image", rules, "-o", book, "--room", "44"), "refused 52\n", "(--room): 8,751 bytes are enough")
+    refuses("image, no room", run("image", rules, "--room", "0"), "refused 52\n", "too short")
+    refuses("image of an image", run("image", EXAMPLE, "-o", book), "refused 50\n", "malformed")
+    refuses("image of an empty file", run("image", "-", "-o", book), "refused 50\n", "malformed")
+    note("a refusal leaves the book", book.read_bytes() == books.P1, run("check", book))
+    refuses("a refusal and a new book", run("image", "-", "-o", folder / "new", given=b"?-"), "refused 50\n", "malformed")
+    note("a refusal writes no book", not (folder / "new").exists(), run("check", book))
+    link = folder / "link"
+    link.symlink_to(book)
+    answers("image through a link", run("image", "-", "-o", link, given=b"?- a."), "written 17 bytes\n")
+    note("the link stays", link.is_symlink() and len(book.read_bytes()) == 17, run("check", book))
+    note("nothing is left beside", not list(folder.glob(".*")), run("check", book))
+
+
+def try_image_faults(folder):
+    rules, book = folder / "rules.txt", folder / "book"
+    for word in ("--help", "-h"):
+        note(f"image {word}", "-o BOOK" in run("image", word).out, run("image", word))
+    fails("image --json without -o", run("image", rules, "--json"), "--json needs -o BOOK")
+    fails("image, no text", run("image"), "required: RULES")
+    fails("image, two texts", run("image", rules, rules), "image takes one text")
+    fails("image, another option", run("image", rules, "--budget", "5"), "image has no option --budget")
+    fails("image, no such file", run("image", folder / "none", "-o", book), "there is no such file")
+    fails("image, a folder", run("image", folder, "-o", book), "this is a folder")
+    fails("image -o, a folder", run("image", rules, "-o", folder), "this is a folder")
+    fails("image -o, an empty name", run("image", rules, "-o", ""), "an empty name: this is a folder")
+    fails("image -o, no such folder", run("image", rules, "-o", folder / "none/book"), "this cannot be written: No such file")
+    fails("image -o, below a file", run("image", rules, "-o", rules / "book"), "Not a directory")
+    fails("image -o, a device", run("image", rules, "-o", "/dev/null"), "no ordinary file")
+    fails("image -o, the text itself", run("image", rules, "-o", rules), "the text itself")
+    fails("image -o, the text itself on standard input", shell(f"./wizogbare image - -o {rules} < {rules}"), "the text itself")
+    note("the text stays", rules.read_bytes() == RULES, run("check", rules))
+    fails("image, output full", shell(f"./wizogbare image {rules} >/dev/full"), "standard output cannot be written")
+    fails("image, output closed", shell(f"./wizogbare image {rules} >&-"), "standard output")
+    terminal, inside = pty.openpty()
+    fails("image to a terminal", run("image", rules, stdout=inside), "not for a terminal")
+    answers("image beside a terminal", run("image", rules, "-o", book, stderr=inside), "written 45 bytes\n")
+    os.close(inside)
+    os.close(terminal)
+
+
+def try_join_of_names(folder):
+    named, objects = folder / "named", folder / "named-objects"
+    named.write_text(run("list", folder / "rules.txt").out)
+    objects.write_text(run("list", folder / "rules.txt", "--json").out)
+    part = "names have numbers only with their book"
+    fails("join of names", run("join", named, folder / "left"), part)
+    fails("join of names second", run("join", folder / "left", named), part)
+    fails("join of names, no numbers", run("join", named, "-", given=b'{"sets": [["fish"], ["rock", "kelp"]]}'), part)
+    for text in (b"sets 1\n1: fish 0\n", b"sets 2 nodes 5\n1: 0\n2: a Bad\n", b'{"sets": [["fish"]]}', b'{"sets": [[0], ["fish", 1]]}'):
+        what = "no list of sets" if b"Bad" in text else part
+        fails(f"join of {text}", run("join", folder / "left", "-", given=text), what)
+    answers("join of numbers beside names", run("join", objects, "-", given=b"sets 1\n1: 2\n"), "sets 3\n1: 0\n2: 1\n3: 2\n")
+    empty = run("list", "-", given=b"a. ?- a.").out.encode()
+    answers("join of a text's empty set", run("join", objects, "-", given=empty), "sets 1\n1: none\n")
+    fails("join of numbers that are none", run("join", objects, "-", given=b'{"sets": [["fish"]], "numbers": [[64]]}'), "no list of sets")
 
 
 # ---- refusals
@@ -215,7 +400,7 @@ def try_no_lists(folder):
 
 def try_usage():
     answers("--version", run("--version"), f"wizogbare {(HERE / 'VERSION').read_text()}")
-    for words in ([], ["list"], ["check"], ["judge"], ["verdict"], ["join"]):
+    for words in ([], ["list"], ["check"], ["judge"], ["verdict"], ["join"], ["image"]):
         ran = run(*words, "--help")
         note(f"help {words}", ran.status == 0 and ran.out.startswith("usage: ./wizogbare") and ran.err == "", ran)
     fails("no command", run(), "COMMAND")
@@ -259,6 +444,8 @@ def try_permissions(folder, checkout, ahead):
     checkout.folder.chmod(0o555)
     fails("unreadable", run("list", unreadable, command=(*ahead, *COMMAND)), "may not be read")
     fails("not to be written", checkout.run(ahead=ahead), "cannot be written")
+    ran = run("image", folder / "rules.txt", "-o", checkout.folder / "image", command=(*ahead, *COMMAND))
+    fails("image -o, a folder not to be written", ran, "image: this cannot be written: Permission denied")
     checkout.folder.chmod(0o755)
 
 
@@ -381,6 +568,8 @@ def main():
         for attempt in (try_text, try_json, try_listing, try_refusals, try_usage, try_output, try_old_python):
             attempt()
         for attempt in (try_join, try_long_lists, try_no_lists, try_files):
+            attempt(folder)
+        for attempt in (try_rules, try_names, try_refused_texts, try_image, try_image_faults, try_join_of_names):
             attempt(folder)
         checkout = Checkout(folder / "checkout")
         ahead = ordinary()
