@@ -2,18 +2,27 @@
 use cases::input::Length;
 use cases::output;
 use image::limits::LONGEST_IMAGE;
+use spelling::LONGEST_TEXT;
 ghost use Prim.Native.Nat.{_≤_};
 ghost use mathlib.Core.Path.{_≡_};
 ghost use lib.ListN.{length};
-ghost use Rattle.arguments.specs.Buffers.{fileBytes};
+ghost use Rattle.arguments.specs.Buffers.{fileBytes, textBytes};
 
 // One more than the longest, so that a longer one is still refused.
 const IMAGE: usize = LONGEST_IMAGE + 1;
+
+const TEXT: usize = LONGEST_TEXT + 1;
 
 pub fn image_buffer() -> [u8; IMAGE]
     ensures { λ r. ⌜ fileBytes ≡ length r ⌝ }
 {
     [0; IMAGE]
+}
+
+pub fn text_buffer() -> [u8; TEXT]
+    ensures { λ r. ⌜ textBytes ≡ length r ⌝ }
+{
+    [0; TEXT]
 }
 
 fn no_length() -> Length

@@ -1,6 +1,7 @@
 // The engine's calls as jobs, for the command ./wizogbare. The first argument names the job, the others are what it takes, and
 // the answer is one line, whose first word says how the job ended. All numbers are decimal. FILE is a file's name, or `-` for
-// standard input; at most its first 8,752 bytes are taken, one more than the longest image has.
+// standard input; at most its first 8,752 bytes are taken, one more than the longest image has, or of a TEXT its first 32,769, one
+// more than the longest text.
 //
 //   check FILE                              accepted | refused R
 //   judge FILE SET                          explains | goal P | constraint P | refused R
@@ -10,6 +11,8 @@
 //                                           for list
 //   join ROOM                               joined K | refused R, then ` sets` and the room's entries; the two lists are on
 //                                           standard input, each a count of two bytes and its sets of eight, big-endian
+//   image TEXT ROOM                         written N bytes, the bytes in hex, rest untouched | refused R room untouched (crate rooms)
+//   names TEXT ROOM                         as for image
 //
 // Where there is no answer: `unknown` for another job, `unlisted` where standard input does not have the two lists, and
 // `unfit P`, `unopened P` and `unread P` for argument P (crate arguments).
@@ -125,6 +128,38 @@ fn join() {
     answers::join(&left[..a], &right[..b], &mut out[..c]);
 }
 
+fn image() {
+    let mut text = files::text_buffer();
+    let mut room = rooms::room_buffer();
+    let taken = files::take_file(FIRST, &mut text);
+    if !taken.ok {
+        return;
+    }
+    let space = numbers::take_room(SECOND, rooms::ROOM);
+    if !space.ok {
+        return;
+    }
+    let n = taken.value;
+    let r = space.value;
+    rooms::read(&text[..n], &mut room[..r]);
+}
+
+fn names() {
+    let mut text = files::text_buffer();
+    let mut room = rooms::room_buffer();
+    let taken = files::take_file(FIRST, &mut text);
+    if !taken.ok {
+        return;
+    }
+    let space = numbers::take_room(SECOND, rooms::ROOM);
+    if !space.ok {
+        return;
+    }
+    let n = taken.value;
+    let r = space.value;
+    rooms::names(&text[..n], &mut room[..r]);
+}
+
 fn main() {
     if asked(b"check") {
         check();
@@ -136,6 +171,10 @@ fn main() {
         verdict();
     } else if asked(b"join") {
         join();
+    } else if asked(b"image") {
+        image();
+    } else if asked(b"names") {
+        names();
     } else {
         output::line(b"unknown");
     }

@@ -5,7 +5,7 @@ use native.Mathlib.Numerals.{add-one}
 use native.Mathlib.Omega.{arith}
 use mathlib.Core.Path.{_≡_, refl, sym, ap, _∙_}
 use mathlib.Core.List.{List, [], _∷_, _++_}
-use lib.ListN.{length, take, drop, set, length-append}
+use lib.ListN.{length, take, drop, set}
 use lib.Seq.{sets, length-sets, sets-eq, set-comm}
 use Rattle.base.specs.paper.Lists.{flat}
 use Rattle.base.specs.Flat.{flat-append}

@@ -12,6 +12,10 @@
 //                                                               unexplained | needed | possible | ruled out, ` nodes N` |
 //                                                               refused R nodes N, then as for 3
 //   5 join    two counts with their sets, room (two bytes)      joined K | refused R, then ` sets` and the room's entries
+//   6 text    text (length in four bytes, at most 40,000; bytes), room (four bytes, at most 10,000)
+//                                                               written N bytes HEX rest untouched | rest other;
+//                                                               refused R room untouched | room other (crate rooms)
+//  12 names   as for 6                                          as for 6
 
 use cases::input;
 use cases::output;
@@ -121,6 +125,8 @@ fn answered(operation: u64) -> bool {
         3 => list_case(),
         4 => verdict_case(),
         5 => join_case(),
+        6 => rooms::text_case(),
+        12 => rooms::names_case(),
         _ => false,
     }
 }

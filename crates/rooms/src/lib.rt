@@ -10,12 +10,15 @@ use image::Writing;
 ghost use Prim.Native.Nat.{_≤_};
 ghost use mathlib.Core.Path.{_≡_};
 ghost use lib.ListN.{length};
-ghost use Rattle.rooms.specs.Buffers.{textBytes, roomBytes};
+ghost use Rattle.rooms.specs.Buffers.{textBytes, roomBytes, digitBytes};
 
 // The most that a case may name: bytes of a text, and of a room.
 const TEXT: usize = 40000;
 
 pub const ROOM: usize = 10000;
+
+// Two digits for each byte of a room.
+const DIGITS: usize = 2 * ROOM;
 
 // What every byte of a room is before a call.
 const BYTE: u8 = 165;
@@ -54,16 +57,30 @@ fn digit(x: u8) -> u8
     b'a' + (x - TEN)
 }
 
+fn high_digit(b: u8) -> u8 {
+    digit(b / SIXTEEN)
+}
+
+fn low_digit(b: u8) -> u8 {
+    digit(b % SIXTEEN)
+}
+
+fn digit_buffer() -> [u8; DIGITS]
+    ensures { λ r. ⌜ digitBytes ≡ length r ⌝ }
+{
+    [0; DIGITS]
+}
+
 // The first n bytes, two digits each.
 fn hex(room: &[u8], n: usize)
     requires { ⌜ (n ≤ length (now room)) × (n ≤ roomBytes) ⌝ }
 {
-    let mut digits = [0u8; 2 * ROOM];
+    let mut digits = digit_buffer();
     let mut i = 0;
     while i < n {
         let b = room[i];
-        digits[2 * i] = digit(b / SIXTEEN);
-        digits[2 * i + 1] = digit(b % SIXTEEN);
+        digits[2 * i] = high_digit(b);
+        digits[2 * i + 1] = low_digit(b);
         i += 1;
     }
     io::write_all(1, &digits[..2 * n]);

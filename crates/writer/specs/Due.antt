@@ -6,7 +6,7 @@ use mathlib.Core.Path.{_≡_, refl, sym, ap, _∙_}
 use mathlib.Core.Bool.{Bool, true, false, _||_}
 use mathlib.Core.List.{List, [], _∷_}
 use lib.ListN.{length, getD, take, drop}
-use lib.Seq.{slice, length-slice, take-take, getD-take, getD-drop, drop-drop, take-nil, drop-nil}
+use lib.Seq.{slice, length-slice, take-take, getD-take, getD-drop, drop-drop, take-nil}
 use Rattle.base.specs.paper.Bools.{choose}
 use Rattle.base.specs.Bools.{clash}
 use Rattle.base.specs.paper.Lists.{any}
@@ -24,7 +24,7 @@ pub record OnePart (codes : List ℕ) (from to : ℕ) (numbers : List ℕ) : Typ
   pub within : to ≤ length codes
   pub known : Known codes numbers
 
--- the statements before the goal line, each part of which ends, and the numbers of the names
+-- a goal line at this place, before it statements whose parts all end, and the numbers of the names
 pub record Statements (codes : List ℕ) (goal : ℕ) (numbers : List ℕ) : Type 0 where
   pub within : goal < length codes
   pub closed : (i : ℕ) → i < goal → any isEnd (slice i goal codes) ≡ true

@@ -1,10 +1,10 @@
 -- What holds of the fixed words and of the names holds of each word of a document.
 -- Assumes nothing.
 use mathlib.Core.Bool.{Bool, true, false}
-use mathlib.Core.List.{List, [], _∷_, _++_}
+use mathlib.Core.List.{List, [], _∷_}
 use Rattle.base.specs.paper.Lists.{Every, flat}
 use Rattle.base.specs.Lists.{every-none, every-more, every-first, every-rest, every-both, every-left, every-right}
-use Rattle.base.specs.Flat.{∈-map, ∈-flat}
+use Rattle.base.specs.Flat.{∈-map}
 use Rattle.spelling.specs.paper.Words.{Word, abd, naf, close, comma, semicolon, dot, neck, arrow, query, trueWord, falseWord}
 use Rattle.spelling.specs.paper.Document.{Atom, Literal, Statement, clause, constraint, Document, ofAtom, ofLiteral, ofLiterals, ofSide, ofWays, ofBody, ofStatement, ofDocument}
 use Rattle.spelling.specs.paper.Said.{atomsIn, mentionsIn, mentions}

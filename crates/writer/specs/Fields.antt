@@ -3,6 +3,7 @@
 -- one that ends with `--->` has a constraint's conditions, and each part behind it is an alternative, up to the `.`.
 -- Assumes nothing.
 use Prim.Native.Nat.{ℕ, _+_, _-_, _*_, _/_, _%_}
+use mathlib.Core.Path.{_≡_}
 use mathlib.Core.Bool.{Bool, _&&_}
 use mathlib.Core.List.{List, [], _∷_, _++_}
 use lib.ListN.{length, getD, take, drop}
@@ -122,3 +123,7 @@ framed fs = version ∷ two (2 * length fs / fieldValues) ++ two (2 * length fs 
 
 abbrev pub imageBy : List ℕ → ℕ → List ℕ → ℕ → ℕ → List ℕ
 imageBy codes goal numbers atoms abducibles = framed (fieldsBy (numberIn numbers) codes goal atoms abducibles)
+
+-- the bytes s are written from the front of a room on, and the others are as they were
+abbrev pub AtFront : List ℕ → List ℕ → List ℕ → ℕ → Type 0
+AtFront s before after r = (r ≡ length s) × (after ≡ s ++ drop (length s) before)

@@ -1,13 +1,12 @@
 -- The image by the codes of a document's words is the document's image.
 -- Assumes nothing.
-use Prim.Native.Nat.{ℕ, suc, _+_}
-use native.Mathlib.Omega.{arith}
+use Prim.Native.Nat.{ℕ, _+_}
 use mathlib.Core.Path.{_≡_, refl, sym, ap, ap₂, _∙_}
 use mathlib.Core.List.{List, [], _∷_, _++_, map, map-append}
 use lib.ListN.{length, getD, take, drop, length-map}
 use lib.Seq.{take-at, drop-append-add}
 use Rattle.base.specs.paper.Lists.{_∈_, Every, flat}
-use Rattle.base.specs.Lists.{every-first, every-rest, every-left, every-right, here, there}
+use Rattle.base.specs.Lists.{every-first, every-rest, every-left, every-right}
 use Rattle.base.specs.Flat.{∈-map, ∈-flat}
 use Rattle.image.specs.paper.Spell.{ofLits, ofAlternative, ofClause, ofConstraint, words, encode}
 use Rattle.spelling.specs.paper.Words.{Word, query, dot}
@@ -15,8 +14,8 @@ use Rattle.spelling.specs.paper.Document.{Atom, Literal, Statement, clause, con
 use Rattle.spelling.specs.paper.Said.{atomsIn, mentionsIn, mentions, abducibles, numbered, numberOf, litIn, clausesIn, constraintsIn, bookOf}
 use Rattle.spelling.specs.paper.Answer.{imageOf}
 use Rattle.spelling.specs.Codes.{dotCode, arrowCode, codeOf, codesOf}
-use Rattle.writer.specs.Fields.{Numbers, numberIn, litsOf, counted, Part, partsOf, countOf, recordsOf, statementsOf, fieldsBy, framed, imageBy}
-use Rattle.writer.specs.OfLiterals.{Good, GoodLiterals, lits-goal}
+use Rattle.writer.specs.Fields.{Numbers, numberIn, litsOf, counted, partsOf, statementsOf, fieldsBy, framed, imageBy}
+use Rattle.writer.specs.OfLiterals.{GoodLiterals, lits-goal}
 use Rattle.writer.specs.OfStatements.{statementParts, GoodStatement, parts-statements, clauses-records, clauses-count, constraints-records, constraints-count}
 
 -- where the goal line starts

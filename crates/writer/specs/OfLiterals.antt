@@ -6,17 +6,16 @@ use mathlib.Core.Path.{_≡_, refl, sym, ap, _∙_}
 use mathlib.Core.Bool.{Bool, true, false}
 use mathlib.Core.List.{List, [], _∷_, _++_, map, append-assoc, append-nil}
 use borrow.Author.Tests.{le-leb, lt-leb}
-use Rattle.base.specs.paper.Bools.{choose}
 use Rattle.base.specs.Bools.{choose-true}
 use Rattle.base.specs.paper.Lists.{Every, flat}
 use Rattle.base.specs.Lists.{every-first, every-rest}
 use Rattle.image.specs.paper.Spell.{ofLit, ofLits}
-use Rattle.spelling.specs.paper.Words.{Word, same, small, inName, abd, naf, close, comma, semicolon, dot, neck, trueWord, isName}
+use Rattle.spelling.specs.paper.Words.{Word, same, small, inName, close, comma, dot, isName}
 use Rattle.spelling.specs.paper.Document.{Atom, Literal, ofAtom, ofLiteral, ofLiterals, ofSide, ofBody}
 use Rattle.spelling.specs.paper.Said.{numberOf, litIn}
 use Rattle.spelling.specs.Reader.{atomOf, literalOf}
-use Rattle.spelling.specs.Codes.{firstName, codeOf, codesOf}
-use Rattle.writer.specs.Fields.{Numbers, literalFactor, signAfter, namesFrom, ruleOf, litsOf, isEnd}
+use Rattle.spelling.specs.Codes.{semicolonCode, arrowCode, firstName, codeOf, codesOf}
+use Rattle.writer.specs.Fields.{Numbers, headFactor, literalFactor, negated, signAfter, namesFrom, ruleOf, litsOf, isEnd}
 use Rattle.writer.specs.Names.{names-name}
 use Rattle.writer.specs.EachWord.{Inner}
 
@@ -32,7 +31,7 @@ module _ (names : List Word) where
 
   pub open-name : (n : Word) → isName n ≡ true → Opens n
   unfolding isEnd
-  open-name n h = ap isEnd (code-name names n h) ∙ rw (le-leb 5 (firstName + numberOf names n) (omega arith), lt-leb (firstName + numberOf names n) 7 (omega arith))
+  open-name n h = ap isEnd (code-name names n h) ∙ rw (le-leb semicolonCode (firstName + numberOf names n) (omega arith), lt-leb (firstName + numberOf names n) arrowCode (omega arith))
 
   pub open-inner : Inner Opens
   unfolding isEnd codeOf isName same small inName
@@ -80,8 +79,8 @@ module _ (names final : List Word) (number : Numbers) where
       go : (t : Bool) → after (ofLiteral (literalOf (l .atom) t) ++ ws) ≡ ofLit (litIn final (literalOf (l .atom) t)) ∷ after ws
       go true = atom-fields literalFactor 0 (l .atom) ws g
       go false =
-          ap (λ (z : List Word). namesFrom number literalFactor 1 (codes z)) (append-assoc (ofAtom (l .atom)) (close ∷ []) ws)
-          ∙ atom-fields literalFactor 1 (l .atom) (close ∷ ws) g
+          ap (λ (z : List Word). namesFrom number literalFactor negated (codes z)) (append-assoc (ofAtom (l .atom)) (close ∷ []) ws)
+          ∙ atom-fields literalFactor negated (l .atom) (close ∷ ws) g
 
   others-fields : (ls : List Literal) (ws : List Word) → GoodLiterals ls
       → after (flat (λ (k : Literal). comma ∷ ofLiteral k) ls ++ ws) ≡ ofLits (map (litIn final) ls) ++ after ws
@@ -128,7 +127,7 @@ module _ (names final : List Word) (number : Numbers) where
   pub rule-clause : (a : Atom) (ls : List Literal) → Good a → GoodLiterals ls → ruleOf number (codes (ofAtom a ++ ofBody ls)) ≡ numberOf final (a .name) ∷ ofLits (map (litIn final) ls)
   unfolding namesFrom
   rule-clause a ls g h =
-      let one : 1 * numberOf final (a .name) + 0 ≡ numberOf final (a .name) = omega arith in
-      atom-fields 1 0 a (ofBody ls) g
+      let one : headFactor * numberOf final (a .name) + 0 ≡ numberOf final (a .name) = omega arith in
+      atom-fields headFactor 0 a (ofBody ls) g
       ∙ ap (λ (m : ℕ). m ∷ after (ofBody ls)) one
       ∙ ap (λ (z : List ℕ). numberOf final (a .name) ∷ z) (ap after (sym (append-nil (ofBody ls))) ∙ body-fields ls h ∙ append-nil (ofLits (map (litIn final) ls)))

@@ -1,13 +1,12 @@
 -- The parts of the statements, and the records that they give.
 -- Assumes nothing.
-use Prim.Native.Nat.{ℕ, suc, _+_}
+use Prim.Native.Nat.{ℕ, _+_}
 use native.Mathlib.Omega.{arith}
 use mathlib.Core.Path.{_≡_, refl, sym, ap, ap₂, _∙_}
-use mathlib.Core.Bool.{Bool, true, false}
+use mathlib.Core.Bool.{true, false}
 use mathlib.Core.List.{List, [], _∷_, _++_, map, append-assoc, append-nil, map-append}
 use lib.ListN.{length, length-append, length-map}
 use lib.Dec.{eqb}
-use Rattle.base.specs.paper.Bools.{choose}
 use Rattle.base.specs.Bools.{choose-true, choose-false}
 use Rattle.base.specs.paper.Lists.{Every, flat}
 use Rattle.base.specs.Lists.{every-none, every-more, every-first, every-rest, every-both}
@@ -17,7 +16,7 @@ use Rattle.spelling.specs.paper.Words.{Word, same, small, inName, semicolon, do
 use Rattle.spelling.specs.paper.Document.{Literal, Statement, clause, constraint, ofAtom, ofLiterals, ofSide, ofWays, ofBody, ofStatement, NonEmpty, LiteralsFine, WayFine, StatementFine}
 use Rattle.spelling.specs.paper.Said.{numberOf, litIn, clausesIn, constraintsIn}
 use Rattle.spelling.specs.Codes.{semicolonCode, dotCode, arrowCode, codeOf, codesOf}
-use Rattle.writer.specs.Fields.{Numbers, signAfter, namesFrom, Part, part, longer, isEnd, partsOf, litsOf, counted, wayOf, waysOf, insideOf, starts, recordsOf, countOf}
+use Rattle.writer.specs.Fields.{Numbers, signAfter, namesFrom, Part, part, longer, isEnd, partsOf, litsOf, wayOf, waysOf, insideOf, starts, recordsOf, countOf}
 use Rattle.writer.specs.EachWord.{Named, each-atom, each-literals, each-side, each-body}
 use Rattle.writer.specs.OfLiterals.{Opens, open-name, open-inner, Good, GoodLiterals, lits-literals, lits-side, rule-clause}
 

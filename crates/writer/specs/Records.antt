@@ -2,7 +2,7 @@
 -- Assumes nothing.
 use Prim.Native.Nat.{ℕ, _+_, _*_, _≤_, _<_}
 use native.Mathlib.Omega.{arith}
-use mathlib.Core.Path.{_≡_, refl, sym, ap, subst, _∙_}
+use mathlib.Core.Path.{_≡_, sym, ap, subst, _∙_}
 use mathlib.Core.Bool.{Bool, true, false}
 use mathlib.Core.List.{List, [], _∷_, _++_}
 use lib.ListN.{length, getD, length-append}
@@ -12,7 +12,7 @@ use Rattle.image.specs.paper.Spell.{ofRecord}
 use Rattle.image.specs.Laid.{laid}
 use Rattle.spelling.specs.Codes.{dotCode}
 use Rattle.spelling.specs.Table.{bit}
-use Rattle.writer.specs.Fields.{Part, numberIn, insideOf, starts, recordsOf, countOf, statementsOf}
+use Rattle.writer.specs.Fields.{numberIn, insideOf, starts, recordsOf, countOf, statementsOf}
 use Rattle.writer.specs.Wrote.{Wrote, wrote-front, Owed, owed-start, owed-length, owed-step, owed-none}
 use Rattle.writer.specs.Due.{Statements, stopOf, partsFrom, Next, next-part}
 use Rattle.writer.specs.Ways.{no-parts}

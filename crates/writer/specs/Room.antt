@@ -15,7 +15,7 @@ use Rattle.base.specs.paper.Lists.{sum}
 use Rattle.base.specs.Flat.{sum-append}
 use Rattle.image.specs.paper.Spell.{ofRecord}
 use Rattle.spelling.specs.Codes.{dotCode, arrowCode, firstName}
-use Rattle.writer.specs.Fields.{Numbers, literalFactor, signAfter, namesFrom, litsOf, ruleOf, Part, part, longer, isEnd, partsOf, counted, wayOf, waysOf, insideOf, starts, recordsOf, countOf, statementsOf, fieldsBy}
+use Rattle.writer.specs.Fields.{Numbers, headFactor, literalFactor, signAfter, namesFrom, litsOf, Part, part, longer, isEnd, partsOf, counted, wayOf, waysOf, insideOf, starts, recordsOf, statementsOf, fieldsBy}
 
 -- how many fields a code can stand for
 unfoldable pub weight : ℕ → ℕ
@@ -100,7 +100,7 @@ module _ (number : Numbers) where
             arith,
             record-length dotCode dotCode true e,
             record-length arrowCode dotCode false g,
-            names-short 1 0 (p .inside),
+            names-short headFactor 0 (p .inside),
             behind-dot e,
             weight-some end,
           )

@@ -2,7 +2,7 @@
 -- Assumes nothing.
 use Prim.Native.Nat.{ℕ, _+_, _*_, _≤_, _<_}
 use native.Mathlib.Omega.{arith}
-use mathlib.Core.Path.{_≡_, refl, sym, ap, subst, _∙_}
+use mathlib.Core.Path.{_≡_, sym, ap, subst, _∙_}
 use mathlib.Core.Bool.{Bool}
 use mathlib.Core.List.{List, [], _++_, append-nil}
 use lib.ListN.{length, getD, length-append}
@@ -11,7 +11,7 @@ use lib.Seq.{slice, slice-empty}
 use borrow.Author.Tests.{eq-eqb, ne-eqb}
 use Rattle.base.specs.paper.Bools.{choose}
 use Rattle.spelling.specs.Codes.{dotCode}
-use Rattle.writer.specs.Fields.{Part, Numbers, numberIn, litsOf, partsOf, wayOf, waysOf}
+use Rattle.writer.specs.Fields.{numberIn, litsOf, partsOf, wayOf, waysOf}
 use Rattle.writer.specs.Wrote.{Wrote, Owed, owed-start, owed-length, owed-step, owed-last, owed-none}
 use Rattle.writer.specs.Due.{OnePart, Statements, stopOf, partsFrom, Next, next-part}
 

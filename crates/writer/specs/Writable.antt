@@ -6,7 +6,6 @@ use mathlib.Core.Path.{_≡_, refl, sym, ap, subst, _∙_}
 use mathlib.Core.Bool.{Bool, true, false}
 use mathlib.Core.List.{List, [], _∷_, _++_, map-append, append-assoc}
 use lib.ListN.{length, getD, drop, length-append, length-map}
-use lib.Seq.{slice}
 use borrow.Author.Tests.{ne-eqb}
 use Rattle.base.specs.paper.Bools.{choose}
 use Rattle.base.specs.Bools.{clash, either-left, either-right}
@@ -14,7 +13,7 @@ use Rattle.base.specs.paper.Lists.{_∈_, Every, any, flat, sum}
 use Rattle.base.specs.Lists.{every-more, every-first, every-rest, every-both, any-append}
 use Rattle.base.specs.Flat.{every-map, flat-∈}
 use Rattle.image.specs.paper.Front.{atomsAt}
-use Rattle.image.specs.paper.Spell.{words, encode}
+use Rattle.image.specs.paper.Spell.{words}
 use Rattle.spelling.specs.paper.Words.{Word, same, small, inName, arrow, dot, query, isName}
 use Rattle.spelling.specs.paper.Document.{Atom, Literal, Statement, clause, constraint, Document, ofAtom, ofSide, ofWays, ofBody, ofStatement, ofDocument, AtomFine, LiteralsFine, StatementFine, Fine}
 use Rattle.spelling.specs.paper.Spelt.{Spaced}
@@ -22,11 +21,11 @@ use Rattle.spelling.specs.paper.Said.{atomsIn, mentionsIn, mentions, abducibles
 use Rattle.spelling.specs.paper.Answer.{longestText, Says, imageOf}
 use Rattle.spelling.specs.Codes.{fixedWords, arrowCode, firstName, codeOf, codesOf}
 use Rattle.spelling.specs.Numbering.{number-most}
-use Rattle.writer.specs.Fields.{isEnd, framed, imageBy}
+use Rattle.writer.specs.Fields.{isEnd, imageBy}
 use Rattle.writer.specs.Due.{Known, Statements}
 use Rattle.writer.specs.Whole.{framed-length}
 use Rattle.writer.specs.OfLiterals.{code-name}
-use Rattle.writer.specs.EachWord.{Inner, Outer, each-word}
+use Rattle.writer.specs.EachWord.{each-word}
 use Rattle.writer.specs.OfDocument.{goalPlace, before, fields-by, framed-words, image-by}
 use Rattle.writer.specs.Room.{weight, ownFields, fields-short}
 

@@ -18,12 +18,10 @@ use spelling::ARROW;
 use spelling::DOT;
 use spelling::LONGEST_TEXT;
 use statements::write_statements;
-ghost use mathlib.Core.Path.{_≡_};
-ghost use mathlib.Core.List.{_++_};
 ghost use Prim.Native.Nat.{_+_, _*_, _≤_};
-ghost use lib.ListN.{length, drop};
+ghost use lib.ListN.{length};
 ghost use Rattle.image.specs.paper.Front.{atomsAt};
-ghost use Rattle.writer.specs.Fields.{numberIn, fieldsBy, imageBy};
+ghost use Rattle.writer.specs.Fields.{numberIn, fieldsBy, imageBy, AtFront};
 ghost use Rattle.writer.specs.Wrote.{Wrote};
 ghost use Rattle.writer.specs.Due.{Statements};
 
@@ -62,7 +60,7 @@ pub fn write_image(
     image: &mut [u8],
 ) -> usize
     requires { ⌜ Statements (now codes) goal (now numbers) × (length (imageBy (now codes) goal (now numbers) atoms abducibles) ≤ length (now image)) ⌝ }
-    ensures { λ r. ⌜ (r ≡ length (imageBy (now (codes .entry)) goal (now (numbers .entry)) atoms abducibles)) × (now (image .exit) ≡ imageBy (now (codes .entry)) goal (now (numbers .entry)) atoms abducibles ++ drop (length (imageBy (now (codes .entry)) goal (now (numbers .entry)) atoms abducibles)) (now (image .entry))) ⌝ }
+    ensures { λ r. ⌜ AtFront (imageBy (now (codes .entry)) goal (now (numbers .entry)) atoms abducibles) (now (image .entry)) (now (image .exit)) r ⌝ }
 {
     let end = write_fields(codes, goal, numbers, atoms, abducibles, image);
     let size = end - ATOMS;

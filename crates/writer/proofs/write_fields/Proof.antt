@@ -1,5 +1,4 @@
 -- `writer::write_fields` meets its contract. Assumes nothing.
-use native.Mathlib.Omega.{arith}
 use Rattle.writer.specs.Whole.{goal-part, goals-room, clauses-room, constraints-room, fields-wrote}
 use borrow.Author.Needs.{needs}
 use Rattle.writer.proofs.write_fields.Statement.{statement}

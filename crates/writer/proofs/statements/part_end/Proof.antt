@@ -1,6 +1,6 @@
 -- `writer::statements::part_end` meets its contract: the part from i on ends where the part from `from` on does. Assumes nothing.
 use Prim.Native.Nat.{_-_, _≤_}
-use mathlib.Core.Path.{_≡_, refl, sym, ap, _∙_}
+use mathlib.Core.Path.{_≡_, refl, sym, _∙_}
 use native.Mathlib.Omega.{arith}
 use Rattle.base.specs.Scans.{ahead-none, ahead-met, ahead-unmet}
 use Rattle.writer.specs.Fields.{isEnd}

@@ -4,7 +4,6 @@ use mathlib.Core.Path.{_∙_}
 use native.Mathlib.Omega.{arith}
 use Rattle.writer.specs.Wrote.{wrote-length}
 use Rattle.writer.specs.Ways.{Waying, waying-start, waying-length, waying-end, waying-place, waying-part, waying-room, waying-last, waying-again}
-use borrow.Author.Needs.{needs}
 use Rattle.writer.proofs.statements.write_ways.Statement.{statement}
 use Rattle.writer.proofs.statements.write_ways.Tie as tie
 
