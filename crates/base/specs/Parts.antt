@@ -1,7 +1,7 @@
 -- Laws of parts of a list: the members that pass a test, and what holds of each member and each later one; a list laid over another.
 -- Assumes nothing.
-use mathlib.Core.Path.{_≡_, refl, sym, ap, subst}
-use mathlib.Core.Bool.{Bool, true, false, not}
+use mathlib.Core.Path.{_≡_, refl, sym, ap, _∙_, subst}
+use mathlib.Core.Bool.{Bool, true, false, _&&_, not}
 use mathlib.Core.Logic.{_⊎_, inl, inr, ⊎-elim}
 use mathlib.Core.List.{List·Memᴰ·head, List, [], _∷_, _++_, List·Memᴰ·cases-cons, List·Memᴰ·not-nil}
 use Prim.Native.Nat.{suc, _≤_}
@@ -38,6 +38,29 @@ module _ {ℓ} {A : Type ℓ} where
           (λ (k : x ∈ filter t l). (there (rest k .0), rest k .1))
           (List·Memᴰ·cases-cons n)
       go false e rest n = (there (rest n .0), rest n .1)
+
+  pub filter-append : (t : A → Bool) (s u : List A) → filter t (s ++ u) ≡ filter t s ++ filter t u
+  filter-append t [] u = refl
+  filter-append t (a ∷ s) u = go (t a) (filter-append t s u)
+    where
+      go : (b : Bool) → filter t (s ++ u) ≡ filter t s ++ filter t u → put b a (filter t (s ++ u)) ≡ put b a (filter t s) ++ filter t u
+      go true e = ap (λ (l : List A). a ∷ l) e
+      go false e = e
+
+  -- one test that is two
+  pub filter-two : (p q r : A → Bool) (l : List A) → ((a : A) → p a ≡ (q a && r a)) → filter p l ≡ filter q (filter r l)
+  filter-two p q r [] h = refl
+  filter-two p q r (a ∷ l) h = ap (λ (b : Bool). put b a (filter p l)) (h a) ∙ go (q a) refl (r a) (filter-two p q r l h)
+    where
+      go : (x : Bool) → q a ≡ x → (y : Bool) → filter p l ≡ filter q (filter r l) → put (x && y) a (filter p l) ≡ filter q (put y a (filter r l))
+      go true e true i = ap (λ (m : List A). a ∷ m) i ∙ ap (λ (b : Bool). put b a (filter q (filter r l))) (sym e)
+      go false e true i = i ∙ ap (λ (b : Bool). put b a (filter q (filter r l))) (sym e)
+      go true e false i = i
+      go false e false i = i
+
+  pub filter-true : (t : A → Bool) (l : List A) → ((a : A) → t a ≡ true) → filter t l ≡ l
+  filter-true t [] h = refl
+  filter-true t (a ∷ l) h = ap (λ (b : Bool). put b a (filter t l)) (h a) ∙ ap (λ (m : List A). a ∷ m) (filter-true t l h)
 
   pub filter-length : (t : A → Bool) (l : List A) → length (filter t l) ≤ length l
   filter-length t [] = omega arith

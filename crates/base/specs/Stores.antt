@@ -3,12 +3,12 @@
 use mathlib.Core.Path.{_≡_, refl, sym, ap, _∙_}
 use mathlib.Core.Bool.{Bool, true, false}
 use mathlib.Core.List.{List, [], _∷_, _++_}
-use Prim.Native.Nat.{ℕ, _+_, _-_, _≤_, _<_}
+use Prim.Native.Nat.{ℕ, suc, _+_, _-_, _≤_, _<_}
 use native.Mathlib.Nat.{le-of-suc-le-suc, not-suc-le-zero}
 use native.Mathlib.Numerals.{add-one}
 use native.Mathlib.Omega.{arith}
 use lib.ListN.{length, take, drop, getD, set}
-use lib.Seq.{take-suc-set, take-suc, drop-set-lt, getD-drop, drop-drop, drop-cons}
+use lib.Seq.{take-suc-set, take-suc, drop-set-lt, getD-drop, drop-drop, drop-cons, sets}
 use Rattle.base.specs.paper.Lists.{filter}
 use Rattle.base.specs.Parts.{lay}
 
@@ -50,3 +50,8 @@ filter-first t l e = rw e
 
 pub filter-later : (t : ℕ → Bool) {x : ℕ} (l : List ℕ) → t x ≡ false → filter t (x ∷ l) ≡ filter t l
 filter-later t l e = rw e
+
+-- a run of stores behind a run of stores
+pub sets-more : (l : List ℕ) (i : ℕ) (s t : List ℕ) → sets (sets l i s) (i + length s) t ≡ sets l i (s ++ t)
+sets-more l i [] t = ap (λ (j : ℕ). sets l j t) (omega arith)
+sets-more l i (a ∷ s) t = ap (λ (j : ℕ). sets (sets l i (a ∷ s)) j t) (omega arith) ∙ sets-more (set l i a) (suc i) s t

@@ -9,6 +9,7 @@ use lib.ListN.{length, take, drop, set}
 use lib.Seq.{sets, length-sets, sets-eq, set-comm}
 use Rattle.base.specs.paper.Lists.{flat}
 use Rattle.base.specs.Flat.{flat-append}
+use Rattle.base.specs.Stores.{sets-more}
 use Rattle.image.specs.paper.Walk.{byteValues}
 use Rattle.image.specs.paper.Spell.{two}
 
@@ -26,10 +27,6 @@ laid-none l at = refl
 pub length-two : (fs : List ℕ) → length (flat two fs) ≡ 2 * length fs
 length-two [] = refl
 length-two (x ∷ fs) = omega (arith, length-two fs)
-
-sets-more : (l : List ℕ) (i : ℕ) (s t : List ℕ) → sets (sets l i s) (i + length s) t ≡ sets l i (s ++ t)
-sets-more l i [] t = ap (λ (j : ℕ). sets l j t) (omega arith)
-sets-more l i (a ∷ s) t = ap (λ (j : ℕ). sets (sets l i (a ∷ s)) j t) (omega arith) ∙ sets-more (set l i a) (suc i) s t
 
 -- a store in front of the others may come first or last
 sets-before : (l : List ℕ) (i a j : ℕ) (s : List ℕ) → i < j → set (sets l j s) i a ≡ sets (set l i a) j s

@@ -1,18 +1,17 @@
 -- The lines of the names of an accepted text: 256 names at the most, each with at most 31 bytes and the end of its line.
 -- Assumes nothing.
-use Prim.Native.Nat.{ℕ, suc, _+_, _*_, _≤_}
+use Prim.Native.Nat.{ℕ, _+_, _*_, _≤_}
 use native.Mathlib.Omega.{arith}
-use mathlib.Core.Path.{_≡_, refl, sym, ap, _∙_, subst}
+use mathlib.Core.Path.{_≡_, refl, sym, ap, subst}
 use mathlib.Core.Bool.{Bool, true, false, _&&_, not}
-use mathlib.Core.Logic.{_⊎_, inl, inr, ⊎-elim}
-use mathlib.Core.List.{List, [], _∷_, _++_, map, List·Memᴰ·cases-cons, List·Memᴰ·not-nil}
+use mathlib.Core.Logic.{_⊎_, ⊎-elim}
+use mathlib.Core.List.{List, [], _∷_, _++_, List·Memᴰ·cases-cons, List·Memᴰ·not-nil}
 use lib.ListN.{length, length-append}
 use lib.Dec.{leb}
 use borrow.Author.Tests.{leb-true}
 use Rattle.base.specs.Bools.{both-left, both-right}
 use Rattle.base.specs.paper.Lists.{_∈_, Every, all, any, put, flat}
 use Rattle.base.specs.Lists.{∈-split, every-first, every-rest}
-use Rattle.image.specs.paper.Faults.{limits}
 use Rattle.image.specs.paper.Decode.{accepted, decode}
 use Rattle.spelling.specs.paper.Words.{Word, ascii, same, inName, startsSmall, bareAbd, bareNaf, trueWord, falseWord, abd, isName}
 use Rattle.spelling.specs.paper.Document.{Atom, Document}

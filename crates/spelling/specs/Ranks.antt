@@ -1,20 +1,19 @@
 -- The numbers that the code gives to the table's entries are the document's.
 -- Assumes nothing.
-use Prim.Native.Nat.{ℕ, zero, suc, _+_, _-_, _%_, _≤_, _<_}
+use Prim.Native.Nat.{ℕ, zero, suc, _+_, _-_, _≤_, _<_}
 use native.Mathlib.Omega.{arith}
-use native.Mathlib.Numerals.{add-one}
 use mathlib.Core.Path.{_≡_, refl, sym, ap, ap₂, _∙_, subst}
 use mathlib.Core.Bool.{Bool, true, false, _||_, not}
 use mathlib.Core.Logic.{_⊎_, ⊎-elim}
-use mathlib.Core.List.{List, [], _∷_, _++_, map, append-assoc, List·Memᴰ·cases-cons, List·Memᴰ·not-nil}
+use mathlib.Core.List.{List, [], _∷_, _++_, map, map-append, append-assoc, List·Memᴰ·cases-cons, List·Memᴰ·not-nil}
 use lib.ListN.{length, take, drop, getD, length-append, length-map}
 use lib.Seq.{split-at, take-suc, length-take-le}
 use lib.Dec.{eqb}
 use Rattle.base.specs.paper.Bools.{choose}
-use Rattle.base.specs.Bools.{clash, decide, choose-true, choose-false}
+use Rattle.base.specs.Bools.{clash, choose-true}
 use Rattle.base.specs.paper.Lists.{_∈_, Every, any, put, filter, Once}
-use Rattle.base.specs.Lists.{here, there, any-some, any-append, ahead, ahead-append}
-use Rattle.base.specs.Parts.{filter-from, pairwise-between, pairwise-right}
+use Rattle.base.specs.Lists.{here, any-some, any-append, ahead, ahead-append}
+use Rattle.base.specs.Parts.{filter-from, filter-append, filter-true, pairwise-between, pairwise-right}
 use Rattle.base.specs.Flat.{∈-map, map-∈}
 use Rattle.spelling.specs.paper.Words.{Word, same}
 use Rattle.spelling.specs.paper.Document.{Atom, Document}
@@ -22,7 +21,7 @@ use Rattle.spelling.specs.paper.Said.{mentions, firsts, abducibles, othe
 use Rattle.spelling.specs.WordLaws.{same-true, same-refl}
 use Rattle.spelling.specs.Numbering.{number-ahead, firsts-once}
 use Rattle.spelling.specs.Table.{nameOf, isMarked, tableOf, clashes, noAtom, bit, Entries, markedEntry, marksIn, numberIn}
-use Rattle.spelling.specs.TableLaws.{filter-append, filter-true, map-append, mentioned-entry, kind-names, clashes-clashing}
+use Rattle.spelling.specs.TableLaws.{mentioned-entry, kind-names, clashes-clashing}
 
 abbrev pub isBare : Atom → Bool
 isBare a = not (a .marked)

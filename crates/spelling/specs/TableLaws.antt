@@ -2,60 +2,25 @@
 -- others, each in their order; and some mention differs exactly if a name clashes. An entry's number is how many of its kind stand
 -- before it, behind all abducibles where it is not marked.
 -- Assumes nothing.
-use Prim.Native.Nat.{ℕ, zero, suc, _+_, _≤_, _<_}
-use native.Mathlib.Omega.{arith}
-use mathlib.Core.Path.{_≡_, refl, sym, ap, ap₂, _∙_, subst}
+use Prim.Native.Nat.{_+_}
+use mathlib.Core.Path.{_≡_, refl, sym, ap, _∙_, subst}
 use mathlib.Core.Bool.{Bool, true, false, _&&_, _||_, not}
-use mathlib.Core.Logic.{_⊎_, inl, inr, _↔_, ⊎-elim}
-use mathlib.Core.List.{List, [], _∷_, _++_, map, append-assoc, append-nil, List·Memᴰ·cases-cons, List·Memᴰ·not-nil}
-use lib.ListN.{length, take, drop, getD, length-append, length-map}
-use lib.Seq.{split-at}
-use Rattle.base.specs.paper.Bools.{choose}
+use mathlib.Core.Logic.{_⊎_, inl, inr, ⊎-elim}
+use mathlib.Core.List.{List, [], _∷_, _++_, map, map-append, append-assoc, append-nil, List·Memᴰ·cases-cons, List·Memᴰ·not-nil}
 use Rattle.base.specs.Bools.{clash, decide, both, same-test, choose-true, choose-false}
-use Rattle.base.specs.paper.Lists.{_∈_, Every, any, put, filter, Once}
-use Rattle.base.specs.Lists.{here, there, ∈-left, ∈-right, ∈-split, any-some, some-any, any-append, ahead, ahead-append}
-use Rattle.base.specs.Parts.{filter-has, filter-from, pairwise-between, pairwise-right}
-use Rattle.base.specs.Flat.{∈-map, map-∈}
+use Rattle.base.specs.paper.Lists.{_∈_, put, filter}
+use Rattle.base.specs.Lists.{here, there, ∈-left, ∈-right, ∈-split, any-some, some-any, any-append}
+use Rattle.base.specs.Parts.{filter-has, filter-from, filter-append, filter-two, filter-true}
 use Rattle.spelling.specs.paper.Words.{Word, same}
 use Rattle.spelling.specs.paper.Document.{Atom, Document}
-use Rattle.spelling.specs.paper.Said.{mentions, firsts, namesOf, abducibles, others, numbered, clashing, numberOf}
+use Rattle.spelling.specs.paper.Said.{mentions, firsts, namesOf, clashing}
 use Rattle.spelling.specs.WordLaws.{same-true, same-refl}
-use Rattle.spelling.specs.Numbering.{Clash, clashing-clash, number-ahead, firsts-once, firsts-has}
-use Rattle.spelling.specs.Table.{nameOf, isMarked, known, enter, entered, tableOf, other, differs, clashes, noAtom}
-
--- ---- tests and parts of lists
+use Rattle.spelling.specs.Numbering.{Clash, clashing-clash}
+use Rattle.spelling.specs.Table.{nameOf, isMarked, known, enter, entered, tableOf, other, differs, clashes}
 
 pub neither : (s t : Bool) → (s || t) ≡ false → (s ≡ false) × (t ≡ false)
 neither true t e = clash refl e
 neither false t e = (refl, e)
-
-module _ {A : Type 0} where
-  pub filter-append : (t : A → Bool) (s u : List A) → filter t (s ++ u) ≡ filter t s ++ filter t u
-  filter-append t [] u = refl
-  filter-append t (a ∷ s) u = go (t a) (filter-append t s u)
-    where
-      go : (b : Bool) → filter t (s ++ u) ≡ filter t s ++ filter t u → put b a (filter t (s ++ u)) ≡ put b a (filter t s) ++ filter t u
-      go true e = ap (λ (l : List A). a ∷ l) e
-      go false e = e
-
-  -- one test that is two
-  filter-two : (p q r : A → Bool) (l : List A) → ((a : A) → p a ≡ (q a && r a)) → filter p l ≡ filter q (filter r l)
-  filter-two p q r [] h = refl
-  filter-two p q r (a ∷ l) h = ap (λ (b : Bool). put b a (filter p l)) (h a) ∙ go (q a) refl (r a) (filter-two p q r l h)
-    where
-      go : (x : Bool) → q a ≡ x → (y : Bool) → filter p l ≡ filter q (filter r l) → put (x && y) a (filter p l) ≡ filter q (put y a (filter r l))
-      go true e true i = ap (λ (m : List A). a ∷ m) i ∙ ap (λ (b : Bool). put b a (filter q (filter r l))) (sym e)
-      go false e true i = i ∙ ap (λ (b : Bool). put b a (filter q (filter r l))) (sym e)
-      go true e false i = i
-      go false e false i = i
-
-  pub filter-true : (t : A → Bool) (l : List A) → ((a : A) → t a ≡ true) → filter t l ≡ l
-  filter-true t [] h = refl
-  filter-true t (a ∷ l) h = ap (λ (b : Bool). put b a (filter t l)) (h a) ∙ ap (λ (m : List A). a ∷ m) (filter-true t l h)
-
-pub map-append : {A B : Type 0} (f : A → B) (s u : List A) → map f (s ++ u) ≡ map f s ++ map f u
-map-append f [] u = refl
-map-append f (a ∷ s) u = ap (λ (l : List _). f a ∷ l) (map-append f s u)
 
 -- ---- entries
 

@@ -4,19 +4,17 @@ use Prim.Native.Nat.{ℕ, suc, _+_, _-_, _≤_, _<_}
 use native.Mathlib.Omega.{arith}
 use mathlib.Core.Path.{_≡_, refl, sym, ap, ap₂, _∙_, subst}
 use mathlib.Core.Bool.{Bool, true, false}
-use mathlib.Core.List.{List, [], _++_, map}
+use mathlib.Core.List.{List, _++_, map}
 use lib.ListN.{length, take, drop, length-append, length-drop}
 use lib.Seq.{take-at}
 use Rattle.base.specs.paper.Lists.{_∈_, flat, filter}
 use Rattle.base.specs.Parts.{filter-length}
-use Rattle.image.specs.paper.Decode.{accepted, decode}
-use Rattle.image.specs.paper.Writing.{number}
 use Rattle.book.specs.declared.Reading.the-variants.{Accepted, Refused}
 use Rattle.book.specs.paper.Reading.{Reads}
 use Rattle.spelling.specs.paper.Words.{Word}
 use Rattle.spelling.specs.paper.Document.{Atom, Document, ofStatement, ofDocument}
-use Rattle.spelling.specs.paper.Said.{mentions, abducibles, numbered, numberOf}
-use Rattle.spelling.specs.paper.Answer.{longestText, Says, imageOf, Clear, Ends}
+use Rattle.spelling.specs.paper.Said.{mentions, numbered, numberOf}
+use Rattle.spelling.specs.paper.Answer.{longestText, Says, imageOf, Clear}
 use Rattle.spelling.specs.Cut.{words as wordsOf}
 use Rattle.spelling.specs.Reader.{reads, parse, parseWords}
 use Rattle.spelling.specs.Sound.{parse-sound}

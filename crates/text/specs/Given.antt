@@ -1,23 +1,22 @@
 -- The numbers given to the entries of the table so far.
 -- Assumes nothing.
-use Prim.Native.Nat.{ℕ, zero, suc, _+_, _-_, _%_, _≤_, _<_}
+use Prim.Native.Nat.{ℕ, _+_, _-_, _%_, _≤_, _<_}
 use native.Mathlib.Omega.{arith}
 use native.Mathlib.Numerals.{add-one}
 use mathlib.Core.Path.{_≡_, refl, sym, ap, _∙_, subst}
 use mathlib.Core.Bool.{Bool, true, false}
 use mathlib.Core.Logic.{_⊎_, ⊎-elim}
-use mathlib.Core.List.{List, [], _∷_, _++_}
-use lib.ListN.{length, take, drop, getD, set, length-append, length-set}
-use lib.Seq.{take-suc, getD-set-same, getD-set-other, length-take-le}
+use mathlib.Core.List.{List, [], _∷_}
+use lib.ListN.{length, take, getD, set, length-append, length-set}
+use lib.Seq.{take-suc, getD-set-same, getD-set-other}
 use lib.Dec.{eqb}
 use borrow.Author.Tests.{eqb-true, eqb-false, eq-eqb}
 use Rattle.base.specs.paper.Bools.{choose}
 use Rattle.base.specs.Bools.{decide, choose-true, choose-false}
 use Rattle.base.specs.paper.Lists.{put, filter}
-use Rattle.base.specs.Parts.{filter-length}
+use Rattle.base.specs.Parts.{filter-append}
 use Rattle.spelling.specs.paper.Answer.{longestText}
 use Rattle.spelling.specs.Table.{markedEntry, marksIn, numberIn}
-use Rattle.spelling.specs.TableLaws.{filter-append}
 
 -- the first n entries have their numbers
 abbrev pub Given : List ℕ → ℕ → List ℕ → ℕ → Type 0

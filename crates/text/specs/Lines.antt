@@ -4,21 +4,21 @@ use Prim.Native.Nat.{ℕ, zero, suc, _+_, _-_, _/_, _%_, _≤_, _<_}
 use native.Mathlib.Omega.{arith}
 use native.Mathlib.Numerals.{add-one}
 use mathlib.Core.Path.{_≡_, refl, sym, ap, ap₂, _∙_, subst}
-use mathlib.Core.Bool.{Bool, true, false, not}
-use mathlib.Core.List.{List, [], _∷_, _++_, map, append-nil}
+use mathlib.Core.Bool.{Bool, true, false}
+use mathlib.Core.List.{List, [], _∷_, _++_, map, map-append, append-nil}
 use lib.ListN.{length, take, drop, getD, set, length-append, length-take, drop-of-length-le}
 use lib.Seq.{sets, length-sets, sets-eq, take-suc, take-at}
 use lib.Dec.{eqb}
-use borrow.Author.Tests.{eqb-true, eqb-false, eq-eqb, ne-eqb}
+use borrow.Author.Tests.{eq-eqb, ne-eqb}
 use Rattle.base.specs.paper.Bools.{choose}
 use Rattle.base.specs.paper.Lists.{flat, put, filter}
 use Rattle.base.specs.Flat.{flat-append}
-use Rattle.base.specs.Stores.{next-all}
+use Rattle.base.specs.Parts.{filter-append}
+use Rattle.base.specs.Stores.{next-all, sets-more}
 use Rattle.spelling.specs.paper.Words.{Word, ascii, inName}
 use Rattle.spelling.specs.paper.Document.{Atom}
 use Rattle.spelling.specs.Cut.{span, cutting, behind}
-use Rattle.spelling.specs.Table.{nameOf, isMarked, nameAt, noAtom, bit, Entries}
-use Rattle.spelling.specs.TableLaws.{filter-append, map-append}
+use Rattle.spelling.specs.Table.{nameOf, nameAt, noAtom, bit, Entries}
 
 -- LF
 abbrev pub lineEnd : List ℕ
@@ -46,10 +46,6 @@ pub record Owing (old : List ℕ) (from : ℕ) (all now : List ℕ) (at : ℕ) (
 
 pub owing-start : (old : List ℕ) (at : ℕ) (s : List ℕ) → Owing old at s old at s
 owing-start old at s = record { place = refl; room = refl }
-
-sets-more : (l : List ℕ) (i : ℕ) (s t : List ℕ) → sets (sets l i s) (i + length s) t ≡ sets l i (s ++ t)
-sets-more l i [] t = ap (λ (j : ℕ). sets l j t) (omega arith)
-sets-more l i (a ∷ s) t = ap (λ (j : ℕ). sets (sets l i (a ∷ s)) j t) (omega arith) ∙ sets-more (set l i a) (suc i) s t
 
 module _ {old : List ℕ} {from : ℕ} {all now : List ℕ} {at : ℕ} {rest : List ℕ} (o : Owing old from all now at rest) where
   pub owing-size : length now ≡ length old

@@ -1,11 +1,11 @@
 -- What is made of a text before anything is written into the room: a refusal's number, or the image and the names of an accepted document.
 -- Assumes nothing.
-use Prim.Native.Nat.{ℕ, zero, suc, _+_, _≤_, _<_}
+use Prim.Native.Nat.{ℕ, suc, _≤_, _<_}
 use native.Mathlib.Omega.{arith}
 use mathlib.Core.Path.{_≡_, refl, sym, ap, _∙_, subst}
 use mathlib.Core.Bool.{Bool, true, false}
-use mathlib.Core.List.{List, [], _++_}
-use lib.ListN.{length, take, drop}
+use mathlib.Core.List.{List, []}
+use lib.ListN.{length, take}
 use lib.Dec.{leb}
 use borrow.Author.Tests.{leb-true, leb-false}
 use Rattle.base.specs.paper.Bools.{choose}
@@ -13,11 +13,10 @@ use Rattle.base.specs.paper.Lists.{flat}
 use Rattle.image.specs.paper.Decode.{Decoded, accepted, refused, decode}
 use Rattle.image.specs.paper.Writing.{bytes, number, answerOf, roomOf}
 use Rattle.image.specs.declared.Writing.{Writing}
-use Rattle.book.specs.declared.Reading.{Reading}
 use Rattle.book.specs.declared.Reading.the-variants.{Accepted, Refused}
 use Rattle.book.specs.paper.Reading.{readingOf, Reads}
 use Rattle.spelling.specs.paper.Document.{Document, ofStatement}
-use Rattle.spelling.specs.paper.Said.{mentions, clashing, bookOf}
+use Rattle.spelling.specs.paper.Said.{mentions, bookOf}
 use Rattle.spelling.specs.paper.Answer.{longestText, Says, imageOf, Clear, Ends, malformed, clashes as clashed, turned, short, whole, Writes}
 use Rattle.spelling.specs.Cut.{words}
 use Rattle.spelling.specs.Reader.{Parsed, reads, unreadable, parse}

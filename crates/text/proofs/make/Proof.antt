@@ -1,8 +1,8 @@
 -- `text::make` meets its contract. Assumes nothing.
-use Prim.Native.Nat.{ℕ, _+_, _≤_}
-use mathlib.Core.Path.{_≡_, refl, sym, ap, _∙_, subst}
+use Prim.Native.Nat.{ℕ, _≤_}
+use mathlib.Core.Path.{sym, subst}
 use native.Mathlib.Omega.{arith}
-use lib.ListN.{length, length-replicate}
+use lib.ListN.{length-replicate}
 use lib.Seq.{length-take-le}
 use Rattle.spelling.specs.Codes.{buckets}
 use Rattle.spelling.specs.paper.Answer.{longestText}

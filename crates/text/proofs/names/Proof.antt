@@ -1,8 +1,8 @@
 -- `text::names` keeps its promise. Assumes nothing.
-use Prim.Native.Nat.{ℕ, _≤_}
-use mathlib.Core.Path.{_≡_, refl, sym, ap, _∙_, subst}
+use Prim.Native.Nat.{_≤_}
+use mathlib.Core.Path.{sym, _∙_}
 use native.Mathlib.Omega.{arith}
-use lib.ListN.{length, take}
+use lib.ListN.{length}
 use lib.Seq.{length-take-le}
 use Rattle.spelling.specs.paper.Answer.{nameLines}
 use Rattle.text.specs.Made.{writes-refusal, writes-delivered}

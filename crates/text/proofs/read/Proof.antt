@@ -1,8 +1,6 @@
 -- `text::read` keeps its promise. Assumes nothing.
-use Prim.Native.Nat.{ℕ, _≤_}
-use mathlib.Core.Path.{_≡_, refl, sym, ap, _∙_, subst}
+use mathlib.Core.Path.{sym}
 use native.Mathlib.Omega.{arith}
-use lib.ListN.{length, take}
 use lib.Seq.{length-take-le}
 use Rattle.spelling.specs.paper.Answer.{imageOf}
 use Rattle.text.specs.Made.{writes-refusal, writes-delivered}

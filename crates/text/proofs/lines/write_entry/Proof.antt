@@ -1,9 +1,9 @@
 -- `text::lines::write_entry` meets its contract. Assumes nothing.
-use Prim.Native.Nat.{ℕ, _+_, _/_, _%_}
-use mathlib.Core.Path.{_≡_, sym, ap, _∙_}
+use Prim.Native.Nat.{ℕ}
+use mathlib.Core.Path.{sym, ap, _∙_}
 use native.Mathlib.Omega.{arith}
 use lib.ListN.{length}
-use Rattle.text.specs.Lines.{lineAt, Lined, lined-none, lined-same, line-taken, line-passed}
+use Rattle.text.specs.Lines.{lineAt, lined-none, lined-same, line-taken, line-passed}
 use borrow.Author.Needs.{needs}
 use Rattle.text.proofs.lines.write_entry.Statement.{statement}
 use Rattle.text.proofs.lines.write_entry.Tie as tie

@@ -1,7 +1,6 @@
 -- `text::lines::write_kind` meets its contract. Assumes nothing.
-use Prim.Native.Nat.{ℕ, _+_, _-_, _/_, _%_}
-use mathlib.Core.Path.{_≡_, sym, ap, _∙_, subst₂}
-use mathlib.Core.Logic.{⊎-elim}
+use Prim.Native.Nat.{_+_, _-_}
+use mathlib.Core.Path.{ap}
 use mathlib.Core.List.{[], _∷_}
 use native.Mathlib.Omega.{arith}
 use lib.ListN.{length, getD, drop, length-append}

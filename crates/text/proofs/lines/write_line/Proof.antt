@@ -1,7 +1,6 @@
 -- `text::lines::write_line` meets its contract. Assumes nothing.
-use Prim.Native.Nat.{ℕ, _+_}
 use native.Mathlib.Omega.{arith}
-use lib.ListN.{length, length-append}
+use lib.ListN.{length-append}
 use Rattle.spelling.specs.Table.{nameAt}
 use Rattle.text.specs.Lines.{lineEnd, lined-byte, lined-size}
 use Rattle.text.proofs.lines.write_line.Statement.{statement}

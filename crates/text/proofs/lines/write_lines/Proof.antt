@@ -1,8 +1,6 @@
 -- `text::lines::write_lines` meets its contract. Assumes nothing.
-use Prim.Native.Nat.{ℕ, _+_}
-use mathlib.Core.Path.{_≡_}
 use native.Mathlib.Omega.{arith}
-use lib.ListN.{length, length-append}
+use lib.ListN.{length-append}
 use Rattle.text.specs.Lines.{linesBy, lined-both, lined-size}
 use borrow.Author.Needs.{needs}
 use Rattle.text.proofs.lines.write_lines.Statement.{statement}

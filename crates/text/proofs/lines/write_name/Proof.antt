@@ -1,11 +1,9 @@
 -- `text::lines::write_name` meets its contract. Assumes nothing.
-use Prim.Native.Nat.{ℕ, _+_, _-_, _≤_, _<_}
-use mathlib.Core.Path.{_≡_, sym, ap, _∙_, subst}
-use mathlib.Core.Bool.{true, false}
+use Prim.Native.Nat.{_+_, _-_}
+use mathlib.Core.Path.{_≡_, sym, ap, _∙_}
 use mathlib.Core.List.{_∷_}
 use native.Mathlib.Omega.{arith}
 use lib.ListN.{length, getD}
-use Rattle.spelling.specs.paper.Words.{inName}
 use Rattle.spelling.specs.Table.{nameAt}
 use Rattle.text.specs.Lines.{Owing, owing-start, owing-byte, owing-size, owing-lined, name-goes, name-ends, text-ends}
 use borrow.Author.Needs.{needs}
