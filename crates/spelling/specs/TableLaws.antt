@@ -1,6 +1,5 @@
 -- The table of names has the document's names: where no mention differs, its marked entries are the abducibles, and the others the
--- others, each in their order; and some mention differs exactly if a name clashes. An entry's number is how many of its kind stand
--- before it, behind all abducibles where it is not marked.
+-- others, each in their order; and some mention differs exactly if a name clashes.
 -- Assumes nothing.
 use Prim.Native.Nat.{_+_}
 use mathlib.Core.Path.{_≡_, refl, sym, ap, _∙_, subst}
