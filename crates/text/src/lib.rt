@@ -1,6 +1,6 @@
 // Rules as surveyors type them, paper 02, A1: a text in, the image of the book that it says out; and the names of its atoms.
-pub mod lines;
-pub mod numbers;
+mod lines;
+mod numbers;
 
 use book::Reading;
 use grammar::goal_place;
@@ -55,6 +55,7 @@ fn make(text: &[u8], entries: &mut [u16; LONGEST_TEXT], image: &mut [u8]) -> Dra
         return refused(MALFORMED);
     }
     let mut codes = [0u16; LONGEST_TEXT];
+    // First the links of the name table, then the atoms' numbers.
     let mut numbers = [0u16; LONGEST_TEXT];
     let mut latest = [0u16; BUCKETS];
     let words = take_words(text, &mut codes, entries, &mut numbers, &mut latest);
