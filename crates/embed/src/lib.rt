@@ -6,9 +6,11 @@ use engine::Joined;
 use engine::Judgement;
 use engine::Listing;
 use engine::Verdict;
-ghost use Rattle.embed.specs.paper.Codes.{ReadingCode, JudgementCode, ListingCode, VerdictCode, JoinedCode};
+use image::Writing;
+ghost use Rattle.embed.specs.paper.Codes.{ReadingCode, JudgementCode, ListingCode, VerdictCode, JoinedCode, WritingCode};
+ghost use Rattle.spelling.specs.paper.Answer.{imageOf, nameLines};
 
-// How many codes there are for the nodes, 2^32, and for a kind of answer, 2^56.
+// How many codes there are for the nodes, or for a count without nodes, 2^32, and for a kind of answer, 2^56.
 const NODE_CODES: u64 = 1 << 32;
 
 const KIND_CODES: u64 = 1 << 56;
@@ -93,5 +95,25 @@ pub extern "C" fn wizogbare_join(left: &[u64], right: &[u64], out: &mut [u64]) -
     match engine::join(left, right, out) {
         Joined::Count(k) => k as u64,
         Joined::Refused(n) => NODE_CODES * (n as u64),
+    }
+}
+
+#[no_mangle]
+pub extern "C" fn wizogbare_text(text: &[u8], image: &mut [u8]) -> u64
+    ensures { λ r. ⌜ WritingCode imageOf (now (text .entry)) (now (image .entry)) r (now (image .exit)) ⌝ }
+{
+    match text::read(text, image) {
+        Writing::Written(n) => n as u64,
+        Writing::Refused(n) => NODE_CODES * (n as u64),
+    }
+}
+
+#[no_mangle]
+pub extern "C" fn wizogbare_names(text: &[u8], room: &mut [u8]) -> u64
+    ensures { λ r. ⌜ WritingCode nameLines (now (text .entry)) (now (room .entry)) r (now (room .exit)) ⌝ }
+{
+    match text::names(text, room) {
+        Writing::Written(n) => n as u64,
+        Writing::Refused(n) => NODE_CODES * (n as u64),
     }
 }
