@@ -7,7 +7,8 @@ use engine::Judgement;
 use engine::Listing;
 use engine::Verdict;
 use image::Writing;
-ghost use Rattle.embed.specs.paper.Codes.{ReadingCode, JudgementCode, ListingCode, VerdictCode, JoinedCode, WritingCode};
+ghost use mathlib.Core.Path.{_≡_};
+ghost use Rattle.embed.specs.paper.Codes.{ReadingCode, JudgementCode, ListingCode, VerdictCode, JoinedCode, writingCode, WritingCode};
 ghost use Rattle.spelling.specs.paper.Answer.{imageOf, nameLines};
 
 // How many codes there are for the nodes, or for a count without nodes, 2^32, and for a kind of answer, 2^56.
@@ -98,22 +99,25 @@ pub extern "C" fn wizogbare_join(left: &[u64], right: &[u64], out: &mut [u64]) -
     }
 }
 
-#[no_mangle]
-pub extern "C" fn wizogbare_text(text: &[u8], image: &mut [u8]) -> u64
-    ensures { λ r. ⌜ WritingCode imageOf (now (text .entry)) (now (image .entry)) r (now (image .exit)) ⌝ }
+fn writing_code(answer: Writing) -> u64
+    ensures { λ r. ⌜ r ≡ writingCode answer ⌝ }
 {
-    match text::read(text, image) {
+    match answer {
         Writing::Written(n) => n as u64,
         Writing::Refused(n) => NODE_CODES * (n as u64),
     }
 }
 
 #[no_mangle]
+pub extern "C" fn wizogbare_text(text: &[u8], image: &mut [u8]) -> u64
+    ensures { λ r. ⌜ WritingCode imageOf (now (text .entry)) (now (image .entry)) r (now (image .exit)) ⌝ }
+{
+    writing_code(text::read(text, image))
+}
+
+#[no_mangle]
 pub extern "C" fn wizogbare_names(text: &[u8], room: &mut [u8]) -> u64
     ensures { λ r. ⌜ WritingCode nameLines (now (text .entry)) (now (room .entry)) r (now (room .exit)) ⌝ }
 {
-    match text::names(text, room) {
-        Writing::Written(n) => n as u64,
-        Writing::Refused(n) => NODE_CODES * (n as u64),
-    }
+    writing_code(text::names(text, room))
 }

@@ -1,37 +1,12 @@
 -- `embed::wizogbare_text` meets its contract. Assumes nothing.
-use mathlib.Core.Path.{sym, ap}
-use Rattle.embed.specs.paper.Codes.{writingCode}
 use borrow.Author.Needs.{needs}
 use Rattle.embed.proofs.wizogbare_text.Statement.{statement}
 use Rattle.embed.proofs.wizogbare_text.Tie as tie
 
 returns : tie.Need-returns
 returns c =
-    record {
-      answer = c .before .before .before .before .before .read .result;
-      writes = c .before .before .before .before .before .read .ensures;
-      code = sym (ap writingCode (c .before .n .given .1));
-    }
-
-returns-2 : tie.Need-returns-2
-returns-2 c =
-    record {
-      answer = c .before .before .before .before .before .read .result;
-      writes = c .before .before .before .before .before .read .ensures;
-      code = sym (ap writingCode (c .before .n2 .given .1));
-    }
+    let done = c .before .before .before in
+    record { answer = done .read .result; writes = done .read .ensures; code = c .writing-code .ensures }
 
 pub wizogbare-text-spec : {M : Type 1} → statement M
-wizogbare-text-spec =
-    tie.close
-    (tie.spec
-    (λ c κs. search needs)
-    (λ c. search needs)
-    (λ c. search needs)
-    (λ c. search needs)
-    (λ c. search needs)
-    (λ c. search needs)
-    (λ c. search needs)
-    returns
-    (λ c. search needs)
-    returns-2)
+wizogbare-text-spec = tie.close (tie.spec (λ c κs. search needs) (λ c κs. search needs) (λ c. search needs) returns)
