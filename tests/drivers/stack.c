@@ -1,4 +1,5 @@
-/* Measures the stack of each call on the books, lists and texts that ask most of it, and fails where one needs more than wizogbare.h states.
+/* Measures the stack of each call on the books, lists and texts that ask most of it, and fails where one needs more than
+ * wizogbare.h states.
  *
  * A call runs on a stack of its own, which is painted before; what is no longer painted was used. */
 
