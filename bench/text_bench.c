@@ -18,9 +18,6 @@
 #include <string.h>
 #include <time.h>
 
-/* The engine's call. What it answers is one number: n for n bytes written, 2^32 * m for a refusal with number m. */
-uint64_t wizogbare_text(const uint8_t *text, size_t text_length, uint8_t *image, size_t image_length);
-
 enum { MOST_TEXT = 32769, LONGEST_IMAGE = 8751 };
 
 /* A run is so many calls that it takes RUN_SECONDS; runs go on until each reader has had ALL_SECONDS. */

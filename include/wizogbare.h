@@ -1,10 +1,10 @@
-/* Wizogbare for callers in C and C++: the five calls, their constants, and functions that take an answer apart.
+/* Wizogbare for callers in C and C++: the seven calls, their constants, and functions that take an answer apart.
  *
  * `rt staticlib embed` writes target/staticlib/libembed.a, for x86-64. What each call answers and leaves is proved:
  * crates/embed/src/lib.rt has the calls, crates/embed/specs/paper/Codes the codes.
  *
  * A list of sets is a run of 64-bit numbers, one for each set; abducible j is the number 2^j. A book's image is a run of
- * bytes. Of each run a pointer and a length is passed; the length is counted in entries, not in bytes.
+ * bytes, and so is a text with rules as one types them. Of each run a pointer and a length is passed; the length is counted in entries, not in bytes.
  *
  * What a call answers is one number, its code. No two answers of a call have one code.
  *
@@ -24,22 +24,26 @@
  *               refused with number m, after n nodes       4 * 2^56 + 2^32 * m + n
  *     join      joined, k sets                             k
  *               refused with number n                      2^32 * n
+ *     text,     written, n bytes                           n
+ *     names     refused with number n                      2^32 * n
  *
- * Aliasing: What a call writes, `sets`, `work` or `out`, must overlap nothing else that the same call is lent. What it
- * only reads may overlap: `left` and `right` may be one list. So a list is not joined into itself; lend a third one. An
- * overlap is not noticed, and then nothing is promised.
+ * Aliasing: What a call writes, `sets`, `work`, `out`, and the `image` or `room` of a text, must overlap nothing else that
+ * the same call is lent. What it only reads may overlap: `left` and `right` may be one list. So a list is not joined into
+ * itself, and an image is not written over its text; lend a third list, and a room beside the text. An overlap is not
+ * noticed, and then nothing is promised.
  *
- * Alignment: An image may stand at any address. A list must stand at a multiple of 8 and a work area at a multiple of 4,
+ * Alignment: An image, a text and a room may stand at any address. A list must stand at a multiple of 8 and a work area at a multiple of 4,
  * as C's own objects of these types do. Memory from malloc is aligned for both, a part of a byte buffer need not be. A
  * wrong alignment is not noticed, and then nothing is promised.
  *
  * NULL: A run of length 0 is never looked at, so its pointer may be NULL, or any other. An image of length 0 is refused
  * with 1, a work area of length 0 with 21. A list of length 0 has no room: a listing or a join whose result is empty
- * still ends well in it, and any other is refused with 31. With a length above 0, NULL is not noticed, and ends the process
+ * still ends well in it, and any other is refused with 31. A text of length 0 is refused with 50, and one that says a book,
+ * in an image or a room of length 0, with 52. With a length above 0, NULL is not noticed, and ends the process
  * where it is looked at.
  *
  * Threads: No call keeps anything or has memory of its own beside the stack, so calls in several threads need no lock.
- * Threads may share an image, and lists to be joined, as long as none writes to them. What a call writes is its own until
+ * Threads may share an image, a text, and lists to be joined, as long as none writes to them. What a call writes is its own until
  * it returns: no other thread may read or write it meanwhile. A call neither waits nor allocates nor calls back, and may
  * be made in a signal handler whose stack is large enough.
  *
@@ -62,7 +66,9 @@ enum {
     WIZOGBARE_WORK_NUMBERS = 16384,     /* numbers of a work area; a shorter one is refused with 21 */
     WIZOGBARE_LARGEST_BUDGET = 1000000, /* nodes; a larger one is refused with 22 */
     WIZOGBARE_LONGEST_IMAGE = 8751,     /* bytes; every longer image is refused, by what it says */
-    WIZOGBARE_MOST_ABDUCIBLES = 64
+    WIZOGBARE_MOST_ABDUCIBLES = 64,
+    WIZOGBARE_LONGEST_TEXT = 32768,     /* bytes; a longer one is refused with 50 */
+    WIZOGBARE_LONGEST_LINES = 8192      /* bytes of the names of an accepted text */
 };
 
 /* Bytes of stack that are enough for each call, with what memcpy and memset take; tests/drivers/stack measures them. Where these
@@ -72,10 +78,13 @@ enum {
     WIZOGBARE_STACK_JUDGE = 34816,
     WIZOGBARE_STACK_LIST = 5120,
     WIZOGBARE_STACK_VERDICT = 5120,
-    WIZOGBARE_STACK_JOIN = 5120
+    WIZOGBARE_STACK_JOIN = 5120,
+    WIZOGBARE_STACK_TEXT = 290816,
+    WIZOGBARE_STACK_NAMES = 290816
 };
 
-/* The numbers of refusals. Those up to 9 are of the image, and every call that takes one may give them. */
+/* The numbers of refusals. Those up to 9 are of the image, and every call that takes one may give them; of the image that a text
+ * says, 5, 7 and 9. */
 enum wizogbare_refusal {
     WIZOGBARE_IMAGE_SHORT = 1,           /* image shorter than 5 bytes */
     WIZOGBARE_VERSION_UNKNOWN = 2,       /* version byte not 1 */
@@ -91,7 +100,10 @@ enum wizogbare_refusal {
     WIZOGBARE_BUDGET_LARGE = 22,         /* the budget is above WIZOGBARE_LARGEST_BUDGET: list, verdict */
     WIZOGBARE_ABDUCIBLE_UNKNOWN = 23,    /* the set or hypothesis names an abducible that the book has not: judge, verdict */
     WIZOGBARE_BUDGET_USED = 30,          /* the budget is used up: list, verdict */
-    WIZOGBARE_NO_ROOM = 31               /* there is no room in the list: list, verdict, join */
+    WIZOGBARE_NO_ROOM = 31,              /* there is no room in the list: list, verdict, join */
+    WIZOGBARE_TEXT_MALFORMED = 50,       /* the text is malformed, or longer than WIZOGBARE_LONGEST_TEXT: text, names */
+    WIZOGBARE_NAME_CLASH = 51,           /* a name stands both with and without `abd`: text, names */
+    WIZOGBARE_ROOM_SHORT = 52            /* the room is shorter than what is to be written: text, names */
 };
 
 /* ---- The calls ---- */
@@ -120,6 +132,16 @@ uint64_t wizogbare_verdict(const uint8_t *image, size_t image_length, uint32_t h
  * in front and 0 in every later entry; refused with 31, it is all 0; with 20, it is untouched. */
 uint64_t wizogbare_join(const uint64_t *left, size_t left_length, const uint64_t *right, size_t right_length, uint64_t *out,
                         size_t out_length);
+
+/* Reads a text with rules, and writes the image of the book that it says: the bytes of the image, which the other calls accept; or
+ * refused with 50, 51, 5, 7, 9 or 52. Written, `image` has the image in front, and its later bytes are unchanged; refused, it is
+ * untouched. WIZOGBARE_LONGEST_IMAGE bytes are always enough. */
+uint64_t wizogbare_text(const uint8_t *text, size_t text_length, uint8_t *image, size_t image_length);
+
+/* Reads a text as wizogbare_text does, and writes the names of its atoms in the order of their numbers, each with an LF behind it:
+ * the bytes of these lines; or refused as there, with 52 where `room` is too short for the lines. It leaves `room` as
+ * wizogbare_text leaves `image`. WIZOGBARE_LONGEST_LINES bytes are always enough. */
+uint64_t wizogbare_names(const uint8_t *text, size_t text_length, uint8_t *room, size_t room_length);
 
 /* ---- The answers, taken apart ----
  *
@@ -227,6 +249,20 @@ static inline enum wizogbare_join_kind wizogbare_join_kind_of(uint64_t code)
 static inline uint32_t wizogbare_join_count(uint64_t code) { return wizogbare_lower_bits(code); }
 
 static inline uint32_t wizogbare_join_refusal(uint64_t code) { return wizogbare_upper_bits(code); }
+
+/* text and names */
+
+enum wizogbare_text_kind { WIZOGBARE_WRITTEN, WIZOGBARE_TEXT_REFUSED };
+
+static inline enum wizogbare_text_kind wizogbare_text_kind_of(uint64_t code)
+{
+    return wizogbare_upper_bits(code) == 0 ? WIZOGBARE_WRITTEN : WIZOGBARE_TEXT_REFUSED;
+}
+
+/* the bytes written */
+static inline uint32_t wizogbare_text_bytes(uint64_t code) { return wizogbare_lower_bits(code); }
+
+static inline uint32_t wizogbare_text_refusal(uint64_t code) { return wizogbare_upper_bits(code); }
 
 #ifdef __cplusplus
 }

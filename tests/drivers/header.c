@@ -3,6 +3,7 @@
 #include "../../include/wizogbare.h"
 
 #include <stdio.h>
+#include <string.h>
 
 static int failed = 0;
 
@@ -29,12 +30,37 @@ static const uint8_t either[] = {1, 0, 0, 0, 24, 0, 3, 0, 2, 0, 1, 0, 4, 0, 2, 0
 static uint64_t sets[WIZOGBARE_LONGEST_LIST + 1], lists[WIZOGBARE_LONGEST_LIST + 1];
 static uint32_t work[WIZOGBARE_WORK_NUMBERS];
 
+/* Texts, without the 0 behind: what `wanted` says; the first without its end; a name with and without `abd`. */
+static const char wanted_text[] = "?- abd(drop).\n", cut_text[] = "?- abd(drop)", clash_text[] = "drop. ?- abd(drop).";
+
+/* What a text is written to, with bytes behind it that are no room. */
+enum { MARK = 0xa5 };
+static uint8_t laid[WIZOGBARE_LONGEST_IMAGE + 1];
+static uint8_t long_text[WIZOGBARE_LONGEST_TEXT + 1];
+
 static const uint32_t BUDGET = 100;
 
 #define LIST(image, budget, sets, room) \
     wizogbare_list(image, sizeof image, budget, sets, room, work, WIZOGBARE_WORK_NUMBERS)
 #define VERDICT(image, hypothesis, sets, room) \
     wizogbare_verdict(image, sizeof image, hypothesis, BUDGET, sets, room, work, WIZOGBARE_WORK_NUMBERS)
+
+typedef uint64_t text_call(const uint8_t *, size_t, uint8_t *, size_t);
+
+/* The answer to a text in a marked room of so many bytes. */
+static uint64_t in_room(text_call *call, const char *text, size_t room)
+{
+    memset(laid, MARK, sizeof laid);
+    return call((const uint8_t *)text, strlen(text), laid, room);
+}
+
+/* Whether the room is marked from this byte on. */
+static int untouched(size_t from)
+{
+    while (from < sizeof laid && laid[from] == MARK)
+        from++;
+    return from == sizeof laid;
+}
 
 static void try_null(void)
 {
@@ -61,6 +87,12 @@ static void try_null(void)
     expect(wizogbare_join(NULL, 0, &empty, 1, sets, 1) == 1, "join with no left list");
     code = wizogbare_join(&empty, 1, &empty, 1, NULL, 0);
     expect(wizogbare_join_refusal(code) == WIZOGBARE_NO_ROOM, "join in no room");
+    expect(wizogbare_text_refusal(wizogbare_text(NULL, 0, NULL, 0)) == WIZOGBARE_TEXT_MALFORMED, "no text");
+    expect(wizogbare_text_refusal(wizogbare_names(NULL, 0, NULL, 0)) == WIZOGBARE_TEXT_MALFORMED, "names of no text");
+    code = wizogbare_text((const uint8_t *)wanted_text, strlen(wanted_text), NULL, 0);
+    expect(wizogbare_text_refusal(code) == WIZOGBARE_ROOM_SHORT, "a text's image in no room");
+    code = wizogbare_names((const uint8_t *)wanted_text, strlen(wanted_text), NULL, 0);
+    expect(wizogbare_text_refusal(code) == WIZOGBARE_ROOM_SHORT, "a text's names in no room");
 }
 
 static void try_constants(void)
@@ -128,11 +160,40 @@ static void try_answers(void)
     expect(wizogbare_verdict_refusal(code) == WIZOGBARE_ABDUCIBLE_UNKNOWN && wizogbare_verdict_nodes(code) == 0, "its number");
 }
 
+static void try_texts(void)
+{
+    enum { IMAGE = sizeof wanted };
+    static text_call *const calls[] = {wizogbare_text, wizogbare_names};
+    uint64_t code = in_room(wizogbare_text, wanted_text, IMAGE);
+    expect(wizogbare_text_kind_of(code) == WIZOGBARE_WRITTEN && wizogbare_text_bytes(code) == IMAGE, "a text's image");
+    expect(wizogbare_text_refusal(code) == 0 && memcmp(laid, wanted, IMAGE) == 0 && untouched(IMAGE), "its bytes, and no more");
+    code = in_room(wizogbare_names, wanted_text, sizeof laid);
+    expect(wizogbare_text_kind_of(code) == WIZOGBARE_WRITTEN && wizogbare_text_bytes(code) == strlen("drop\n"), "a text's names");
+    expect(memcmp(laid, "drop\n", strlen("drop\n")) == 0 && untouched(strlen("drop\n")), "its lines, and no more");
+    for (int i = 0; i < 2; i++) {
+        code = in_room(calls[i], cut_text, sizeof laid);
+        expect(wizogbare_text_kind_of(code) == WIZOGBARE_TEXT_REFUSED && wizogbare_text_bytes(code) == 0, "a malformed text");
+        expect(wizogbare_text_refusal(code) == WIZOGBARE_TEXT_MALFORMED && untouched(0), "its refusal");
+        code = in_room(calls[i], clash_text, sizeof laid);
+        expect(wizogbare_text_refusal(code) == WIZOGBARE_NAME_CLASH && untouched(0), "a name that clashes");
+        code = in_room(calls[i], wanted_text, i == 0 ? IMAGE - 1 : strlen("drop\n") - 1);
+        expect(wizogbare_text_refusal(code) == WIZOGBARE_ROOM_SHORT && untouched(0), "a room too short");
+        memset(long_text, ' ', sizeof long_text);
+        memcpy(long_text, wanted_text, strlen(wanted_text));
+        code = calls[i](long_text, WIZOGBARE_LONGEST_TEXT, laid, sizeof laid);
+        expect(wizogbare_text_kind_of(code) == WIZOGBARE_WRITTEN, "the longest text");
+        memset(laid, MARK, sizeof laid);
+        code = calls[i](long_text, WIZOGBARE_LONGEST_TEXT + 1, laid, sizeof laid);
+        expect(wizogbare_text_refusal(code) == WIZOGBARE_TEXT_MALFORMED && untouched(0), "a text too long");
+    }
+}
+
 int main(void)
 {
     try_null();
     try_constants();
     try_answers();
+    try_texts();
     if (!failed)
         printf("header: as stated\n");
     return failed;

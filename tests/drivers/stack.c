@@ -1,4 +1,5 @@
-/* Measures the stack of each call on the books that ask most of it, and fails where one needs more than wizogbare.h states.
+/* Measures the stack of each call on the books, lists and texts that ask most of it, and fails where one needs more than
+ * wizogbare.h states.
  *
  * A call runs on a stack of its own, which is painted before; what is no longer painted was used. */
 
@@ -11,7 +12,7 @@
 #include <string.h>
 #include <ucontext.h>
 
-enum { STACK_BYTES = 1 << 18, PAINT = 0xa5 };
+enum { STACK_BYTES = 1 << 19, PAINT = 0xa5 };
 
 static void stop(const char *what)
 {
@@ -165,6 +166,63 @@ static void write_lists(void)
                 apart[--left] = (uint64_t)1 << i | (uint64_t)1 << j | (uint64_t)1 << k;
 }
 
+/* ---- Texts ---- */
+
+struct text {
+    uint8_t bytes[WIZOGBARE_LONGEST_TEXT];
+    size_t length;
+};
+
+static void add(struct text *text, const char *words)
+{
+    size_t length = strlen(words);
+    if (text->length + length > sizeof text->bytes)
+        stop("a text is too long");
+    memcpy(text->bytes + text->length, words, length);
+    text->length += length;
+}
+
+/* A fact for each of so many names, then a goal; filled up with spaces. */
+static void write_facts(struct text *text, unsigned names, const char *form)
+{
+    char fact[64];
+    text->length = 0;
+    for (unsigned i = 0; i < names; i++) {
+        snprintf(fact, sizeof fact, form, i);
+        add(text, fact);
+    }
+    add(text, "?-goal.");
+    memset(text->bytes + text->length, ' ', sizeof text->bytes - text->length);
+    text->length = sizeof text->bytes;
+}
+
+/* All atoms on a chain, with the longest names. */
+static void write_chained(struct text *text)
+{
+    char clause[128];
+    text->length = 0;
+    for (unsigned i = 0; i + 1 < MOST_ATOMS; i++) {
+        snprintf(clause, sizeof clause, "a%030u:-a%030u.", i, i + 1);
+        add(text, clause);
+    }
+    snprintf(clause, sizeof clause, "?-a%030u.", 0u);
+    add(text, clause);
+}
+
+/* A name beside the goal's, as many names as a book may have, a chain of them, thousands, and a text that is no word. */
+enum { FEW_NAMES, LONG_NAMES, CHAINED, MANY_NAMES, NO_GOAL, TEXTS };
+static struct text texts[TEXTS];
+
+static void write_texts(void)
+{
+    write_facts(&texts[FEW_NAMES], 1, "a%u.");
+    write_facts(&texts[LONG_NAMES], MOST_ATOMS - 1, "a%030u.");
+    write_chained(&texts[CHAINED]);
+    write_facts(&texts[MANY_NAMES], 6000, "s%x.");
+    memset(texts[NO_GOAL].bytes, 'a', sizeof texts[NO_GOAL].bytes);
+    texts[NO_GOAL].length = sizeof texts[NO_GOAL].bytes;
+}
+
 /* ---- The calls ---- */
 
 static uint64_t sets[WIZOGBARE_LONGEST_LIST];
@@ -172,6 +230,8 @@ static uint32_t work[WIZOGBARE_WORK_NUMBERS];
 static const struct book *book;
 static size_t room;
 static const uint64_t *right;
+static const struct text *text;
+static uint8_t written[WIZOGBARE_LONGEST_IMAGE];
 static uint64_t answer;
 
 static void call_read(void) { answer = wizogbare_read(book->image, book->length); }
@@ -189,6 +249,10 @@ static void call_verdict(void)
 }
 
 static void call_join(void) { answer = wizogbare_join(apart, WIZOGBARE_LONGEST_LIST, right, WIZOGBARE_LONGEST_LIST, sets, room); }
+
+static void call_text(void) { answer = wizogbare_text(text->bytes, text->length, written, room); }
+
+static void call_names(void) { answer = wizogbare_names(text->bytes, text->length, written, room); }
 
 /* ---- The painted stack ---- */
 
@@ -244,6 +308,20 @@ static void expect_answers(void)
     right = apart;
     call_join();
     expect(wizogbare_join_count(answer) == WIZOGBARE_LONGEST_LIST);
+    room = sizeof written;
+    for (text = texts; text < texts + MANY_NAMES; text++) {
+        call_text();
+        expect(wizogbare_text_kind_of(answer) == WIZOGBARE_WRITTEN);
+    }
+    text = &texts[CHAINED];
+    call_names();
+    expect(wizogbare_text_bytes(answer) == WIZOGBARE_LONGEST_LINES);
+    text = &texts[MANY_NAMES];
+    call_text();
+    expect(wizogbare_text_refusal(answer) == WIZOGBARE_LIMIT_BROKEN);
+    text = &texts[NO_GOAL];
+    call_text();
+    expect(wizogbare_text_refusal(answer) == WIZOGBARE_TEXT_MALFORMED);
 }
 
 static size_t most_over_books(void (*call)(void))
@@ -265,6 +343,15 @@ static size_t most_over_lists(void)
     return most;
 }
 
+static size_t most_over_texts(void (*call)(void))
+{
+    size_t most = 0;
+    for (text = texts; text < texts + TEXTS; text++)
+        for (room = 0; room <= sizeof written; room += sizeof written)
+            most = larger(most, used_by(call));
+    return most;
+}
+
 /* ---- The table ---- */
 
 static int report(const char *name, size_t used, size_t stated)
@@ -278,11 +365,14 @@ int main(void)
     int failed = 0;
     write_books();
     write_lists();
+    write_texts();
     expect_answers();
     failed |= report("read", most_over_books(call_read), WIZOGBARE_STACK_READ);
     failed |= report("judge", most_over_books(call_judge), WIZOGBARE_STACK_JUDGE);
     failed |= report("list", most_over_books(call_list), WIZOGBARE_STACK_LIST);
     failed |= report("verdict", most_over_books(call_verdict), WIZOGBARE_STACK_VERDICT);
     failed |= report("join", most_over_lists(), WIZOGBARE_STACK_JOIN);
+    failed |= report("text", most_over_texts(call_text), WIZOGBARE_STACK_TEXT);
+    failed |= report("names", most_over_texts(call_names), WIZOGBARE_STACK_NAMES);
     return failed;
 }

@@ -42,6 +42,14 @@ use Rattle.engine.specs.paper.Verdict.{named, asked, verdictResult, decided, ve
 use Rattle.engine.specs.declared.Verdict.{Verdict}
 use Rattle.engine.specs.declared.Verdict.the-variants as verdict
 use Rattle.area.specs.paper.Work.{workNumbers}
+use Rattle.image.specs.Encode.{longestImage, longest-image}
+use Rattle.image.specs.paper.Writing.{Ending as Written, answerOf as writingOf}
+use Rattle.image.specs.declared.Writing.{Writing}
+use Rattle.image.specs.declared.Writing.the-variants as writing
+use Rattle.spelling.specs.paper.Document.{Document}
+use Rattle.spelling.specs.paper.Said.{bookOf}
+use Rattle.spelling.specs.paper.Answer.{imageOf, nameLines, Clear, Ends, malformed, clashes, turned, short, whole, Writes}
+use Rattle.spelling.specs.Lines.{lines-fit}
 
 -- the last refusal number of paper 01
 abbrev pub lastNumber : ℕ
@@ -215,3 +223,38 @@ joined-within left right out r after h = go (joins-outcome h)
     go (refused20 l a s) = subst JoinedWithin (sym a) (refusal 20 (omega arith) (omega arith))
     go (refused31 l fits j more a s) = subst JoinedWithin (sym a) (refusal 31 (omega arith) (omega arith))
     go (counted l fits j room a s) = subst JoinedWithin (sym a) (omega (arith, short fits))
+
+-- ---- text and names
+
+-- the last refusal number of paper 02, A1
+abbrev pub lastText : ℕ
+lastText = 52
+
+-- the most bytes that are written: the longest image, as the lines of the names are shorter
+abbrev pub mostWritten : ℕ
+mostWritten = longestImage
+
+abbrev pub WritingWithin : Writing → Type 0
+WritingWithin (writing.Written n) = n ≤ mostWritten
+WritingWithin (writing.Refused n) = (1 ≤ n) × (n ≤ lastText)
+
+-- what is written of an accepted text is that short
+abbrev pub Short : (Document → List ℕ) → Type 0
+Short what = (text : List ℕ) (d : Document) → Clear text d → decode (imageOf d) ≡ accepted (bookOf d) → length (what d) ≤ mostWritten
+
+pub image-short : Short imageOf
+image-short text d c e = longest-image (imageOf d) (bookOf d) e
+
+pub lines-short : Short nameLines
+lines-short text d c e = omega (arith, lines-fit text d c e)
+
+pub writing-within : (what : Document → List ℕ) → Short what → (text room : List ℕ) (r : Writing) (after : List ℕ)
+    → Writes what text room r after → WritingWithin r
+writing-within what few text room r after h = subst WritingWithin (sym (h .answer)) (go (h .ending) (h .ends))
+  where
+    go : (e : Written) → Ends what text (length room) e → WritingWithin (writingOf e)
+    go e (malformed none) = (omega arith, omega arith)
+    go e (clashes d s t) = (omega arith, omega arith)
+    go e (turned d n c t) = let k = by-reader (imageOf d) n t in (k .some, omega (arith, k .most))
+    go e (short d c t k) = (omega arith, omega arith)
+    go e (whole d c t k) = few text d c t

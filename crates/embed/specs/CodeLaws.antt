@@ -24,8 +24,13 @@ use Rattle.joiner.specs.declared.Joined.{Joined}
 use Rattle.joiner.specs.declared.Joined.the-variants as joined
 use Rattle.joiner.specs.paper.Join.{Joins}
 use Rattle.joiner.specs.JoinLaws.{joins-unique}
-use Rattle.embed.specs.paper.Codes.{nodeCodes, kindCodes, falseGoal, brokenConstraint, judgeRefused, listRefused, needed, possible, ruledOut, verdictRefused, readingCode, ReadingCode, judgementCode, JudgementCode, listingCode, ListingCode, verdictCode, VerdictCode, joinedCode, JoinedCode}
-use Rattle.embed.specs.Bounds.{ReadingWithin, reading-within, JudgementWithin, judgement-within, ListingWithin, listing-within, VerdictWithin, verdict-within, JoinedWithin, joined-within}
+use Rattle.image.specs.declared.Writing.{Writing}
+use Rattle.image.specs.declared.Writing.the-variants as writing
+use Rattle.spelling.specs.paper.Document.{Document}
+use Rattle.spelling.specs.paper.Answer.{imageOf, nameLines, Writes}
+use Rattle.spelling.specs.Answers.{writes-unique}
+use Rattle.embed.specs.paper.Codes.{nodeCodes, kindCodes, falseGoal, brokenConstraint, judgeRefused, listRefused, needed, possible, ruledOut, verdictRefused, readingCode, ReadingCode, judgementCode, JudgementCode, listingCode, ListingCode, verdictCode, VerdictCode, joinedCode, JoinedCode, writingCode, WritingCode}
+use Rattle.embed.specs.Bounds.{ReadingWithin, reading-within, JudgementWithin, judgement-within, ListingWithin, listing-within, VerdictWithin, verdict-within, JoinedWithin, joined-within, WritingWithin, Short, image-short, lines-short, writing-within}
 
 -- ---- two results that meet one of the promises are equal
 
@@ -54,6 +59,12 @@ pub joined-code-unique : (left right out : List ℕ) (q r : ℕ) (after₁ after
 joined-code-unique left right out q r after₁ after₂ a b =
     let same = joins-unique (a .joins) (b .joins) in
     (a .code ∙ ap joinedCode (same .0) ∙ sym (b .code), same .1)
+
+pub writing-code-unique : (what : Document → List ℕ) (text room : List ℕ) (q r : ℕ) (after₁ after₂ : List ℕ)
+    → WritingCode what text room q after₁ → WritingCode what text room r after₂ → (q ≡ r) × (after₁ ≡ after₂)
+writing-code-unique what text room q r after₁ after₂ a b =
+    let same = writes-unique what text room (a .answer) (b .answer) after₁ after₂ (a .writes) (b .writes) in
+    (a .code ∙ ap writingCode (same .0) ∙ sym (b .code), same .1)
 
 -- ---- an answer read back from its code, by the kind and by what stands below it
 
@@ -131,6 +142,16 @@ joined-back (joined.Count k) w = parted joined-at k 0 k (omega arith) (omega ari
 joined-back (joined.Refused zero) w = absurd (omega (arith, w .some))
 joined-back (joined.Refused (suc n)) w = parted joined-at (nodeCodes * suc n) (suc n) 0 (omega arith) (omega arith)
 
+writing-at : ℕ → ℕ → Writing
+writing-at zero n = writing.Written n
+writing-at (suc n) k = writing.Refused (suc n)
+
+writing-back : (r : Writing) → WritingWithin r → writing-at (writingCode r / nodeCodes) (writingCode r % nodeCodes) ≡ r
+unfolding writing-at
+writing-back (writing.Written n) w = parted writing-at n 0 n (omega arith) (omega arith)
+writing-back (writing.Refused zero) w = absurd (omega (arith, w .0))
+writing-back (writing.Refused (suc n)) w = parted writing-at (nodeCodes * suc n) (suc n) 0 (omega arith) (omega arith)
+
 -- ---- so no two answers that meet the promise of a call, on whatever inputs, have one code
 
 pub reading-code-tells : (s t : List ℕ) (a c : Reading) → Reads s a → Reads t c → readingCode a ≡ readingCode c → a ≡ c
@@ -162,3 +183,18 @@ joined-code-tells left right out after left′ right′ out′ after′ a c p q 
     sym (joined-back a (joined-within left right out a after p))
     ∙ ap (λ (x : ℕ). joined-at (x / nodeCodes) (x % nodeCodes)) e
     ∙ joined-back c (joined-within left′ right′ out′ c after′ q)
+
+pub writing-code-tells : (what : Document → List ℕ) → Short what → (text room after text′ room′ after′ : List ℕ) (a c : Writing)
+    → Writes what text room a after → Writes what text′ room′ c after′ → writingCode a ≡ writingCode c → a ≡ c
+writing-code-tells what few text room after text′ room′ after′ a c p q e =
+    sym (writing-back a (writing-within what few text room a after p))
+    ∙ ap (λ (x : ℕ). writing-at (x / nodeCodes) (x % nodeCodes)) e
+    ∙ writing-back c (writing-within what few text′ room′ c after′ q)
+
+pub text-code-tells : (text room after text′ room′ after′ : List ℕ) (a c : Writing)
+    → Writes imageOf text room a after → Writes imageOf text′ room′ c after′ → writingCode a ≡ writingCode c → a ≡ c
+text-code-tells = writing-code-tells imageOf image-short
+
+pub names-code-tells : (text room after text′ room′ after′ : List ℕ) (a c : Writing)
+    → Writes nameLines text room a after → Writes nameLines text′ room′ c after′ → writingCode a ≡ writingCode c → a ≡ c
+names-code-tells = writing-code-tells nameLines lines-short

@@ -6,9 +6,12 @@ use engine::Joined;
 use engine::Judgement;
 use engine::Listing;
 use engine::Verdict;
-ghost use Rattle.embed.specs.paper.Codes.{ReadingCode, JudgementCode, ListingCode, VerdictCode, JoinedCode};
+use image::Writing;
+ghost use mathlib.Core.Path.{_≡_};
+ghost use Rattle.embed.specs.paper.Codes.{ReadingCode, JudgementCode, ListingCode, VerdictCode, JoinedCode, writingCode, WritingCode};
+ghost use Rattle.spelling.specs.paper.Answer.{imageOf, nameLines};
 
-// How many codes there are for the nodes, 2^32, and for a kind of answer, 2^56.
+// How many codes there are for the nodes, or for a count without nodes, 2^32, and for a kind of answer, 2^56.
 const NODE_CODES: u64 = 1 << 32;
 
 const KIND_CODES: u64 = 1 << 56;
@@ -94,4 +97,27 @@ pub extern "C" fn wizogbare_join(left: &[u64], right: &[u64], out: &mut [u64]) -
         Joined::Count(k) => k as u64,
         Joined::Refused(n) => NODE_CODES * (n as u64),
     }
+}
+
+fn writing_code(answer: Writing) -> u64
+    ensures { λ r. ⌜ r ≡ writingCode answer ⌝ }
+{
+    match answer {
+        Writing::Written(n) => n as u64,
+        Writing::Refused(n) => NODE_CODES * (n as u64),
+    }
+}
+
+#[no_mangle]
+pub extern "C" fn wizogbare_text(text: &[u8], image: &mut [u8]) -> u64
+    ensures { λ r. ⌜ WritingCode imageOf (now (text .entry)) (now (image .entry)) r (now (image .exit)) ⌝ }
+{
+    writing_code(text::read(text, image))
+}
+
+#[no_mangle]
+pub extern "C" fn wizogbare_names(text: &[u8], room: &mut [u8]) -> u64
+    ensures { λ r. ⌜ WritingCode nameLines (now (text .entry)) (now (room .entry)) r (now (room .exit)) ⌝ }
+{
+    writing_code(text::names(text, room))
 }

@@ -1,6 +1,6 @@
 -- The answers as one number each, for callers in C. Of judge, list and verdict each kind of answer has 2^56 codes of its own, and among
--- them a count, or a refusal's number that comes with nodes, stands above the 2^32 codes of the nodes; a joiner's refusal stands above its
--- counts in the same way.
+-- them a count, or a refusal's number that comes with nodes, stands above the 2^32 codes of the nodes; a refusal of join, text or names
+-- stands above their counts in the same way.
 --
 --   call      answer               code
 --   read      Accepted             0
@@ -18,6 +18,8 @@
 --             Refused m n          4 * 2^56 + 2^32 * m + n
 --   join      Count k              k
 --             Refused n            2^32 * n
+--   text,     Written n            n
+--   names     Refused n            2^32 * n
 -- Assumes nothing.
 use Prim.Native.Nat.{ℕ, _+_, _*_, _^_}
 use mathlib.Core.Path.{_≡_}
@@ -37,8 +39,12 @@ use Rattle.engine.specs.paper.Verdict.{Verdicts}
 use Rattle.joiner.specs.declared.Joined.{Joined}
 use Rattle.joiner.specs.declared.Joined.the-variants as joined
 use Rattle.joiner.specs.paper.Join.{Joins}
+use Rattle.image.specs.declared.Writing.{Writing}
+use Rattle.image.specs.declared.Writing.the-variants as writing
+use Rattle.spelling.specs.paper.Document.{Document}
+use Rattle.spelling.specs.paper.Answer.{Writes}
 
--- how many codes there are for the nodes, or for a joiner's count
+-- how many codes there are for the nodes, or for a count that comes without nodes
 abbrev pub nodeCodes : ℕ
 nodeCodes = 2 ^ 32
 
@@ -122,3 +128,13 @@ pub record JoinedCode (left right out : List ℕ) (r : ℕ) (after : List ℕ) :
   pub answer : Joined
   pub joins : Joins left right out answer after
   pub code : r ≡ joinedCode answer
+
+abbrev pub writingCode : Writing → ℕ
+writingCode (writing.Written n) = n
+writingCode (writing.Refused n) = nodeCodes * n
+
+-- by what the call writes, the image or the names
+pub record WritingCode (what : Document → List ℕ) (text room : List ℕ) (r : ℕ) (after : List ℕ) : Type 0 where
+  pub answer : Writing
+  pub writes : Writes what text room answer after
+  pub code : r ≡ writingCode answer
