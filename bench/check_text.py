@@ -1,4 +1,4 @@
-"""Compares the C reader of texts with the independent Python implementation.
+"""Compares both C readers of texts, the plain one and the tuned one, with the independent Python implementation.
 
     python3 bench/check_text.py
 
@@ -27,12 +27,30 @@ from tests.stored import stored_text
 from texts import entries
 
 
-def c_lines(cases, folder):
+READERS = ("plain", "tuned")
+
+
+def built(folder):
     program = folder / "text_answers"
     compiler = os.environ.get("CC", "cc")
     more = os.environ.get("CFLAGS", "").split()
-    subprocess.run([compiler, "-O3", *more, "-o", program, HERE / "text_answers.c", HERE / "text.c", HERE / "reader.c"], check=True)
-    return subprocess.run([program], input=b"".join(cases), stdout=subprocess.PIPE).stdout.decode().splitlines()
+    sources = [HERE / name for name in ("text_answers.c", "text.c", "text_tuned.c", "reader.c")]
+    subprocess.run([compiler, "-O3", *more, "-o", program, *sources], check=True)
+    return program
+
+
+def c_lines(program, reader, cases):
+    return subprocess.run([program, reader], input=b"".join(cases), stdout=subprocess.PIPE).stdout.decode().splitlines()
+
+
+def differences(reader, cases, expected, found):
+    """How many answers of this reader differ; the first few are shown."""
+    if len(found) != len(cases):
+        sys.exit(f"the {reader} C reader gave {len(found)} of {len(cases)} answers")
+    differing = [place for place, line in enumerate(found) if line != expected[place]]
+    for place in differing[:5]:
+        print(f"{reader} differs: {cases[place][:300]}\n{expected[place][:300]}\n{found[place][:300]}")
+    return len(differing)
 
 
 def main():
@@ -40,17 +58,14 @@ def main():
     cases = [answers.pack_text(entry.text, room) for entry in entries() for room in (answers.MOST_BYTES, 100)]
     cases += [case for _, case, _ in stored_text.stored()]
     cases += [generator.text_case(rng) for _ in range(GENERATED)]
-    with tempfile.TemporaryDirectory() as folder:
-        found = c_lines(cases, Path(folder))
-    if len(found) != len(cases):
-        sys.exit(f"the C reader gave {len(found)} of {len(cases)} answers")
     expected = [answers.line(case) for case in cases]
-    differing = [place for place, line in enumerate(found) if line != expected[place]]
-    for place in differing[:5]:
-        print(f"differs: {cases[place][:300]}\n{expected[place][:300]}\n{found[place][:300]}")
     kinds = Counter(line.split()[1] if line.startswith("refused") else "written" for line in expected)
-    print(f"{len(cases)} texts ({', '.join(f'{count} {kind}' for kind, count in sorted(kinds.items()))}), {len(differing)} differences")
-    sys.exit(1 if differing else 0)
+    print(f"{len(cases)} texts ({', '.join(f'{count} {kind}' for kind, count in sorted(kinds.items()))})")
+    with tempfile.TemporaryDirectory() as folder:
+        program = built(Path(folder))
+        counts = [differences(reader, cases, expected, c_lines(program, reader, cases)) for reader in READERS]
+    print(", ".join(f"{reader} C: {count} differences" for reader, count in zip(READERS, counts)))
+    sys.exit(1 if any(counts) else 0)
 
 
 if __name__ == "__main__":

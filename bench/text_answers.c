@@ -1,6 +1,6 @@
-/* Prints the C reader's answers to cases of operation 6, as `replay` does.
+/* Prints a C reader's answers to cases of operation 6, as `replay` does.
  *
- *     text_answers < CASES
+ *     text_answers plain|tuned < CASES
  *
  * A case is the byte 6, the text's length in four bytes, the text, and the room's length in four bytes, highest byte first. */
 
@@ -38,14 +38,14 @@ static const char *state(size_t from, size_t room)
 }
 
 /* The text is lent in memory of just its length, so that a tool can see what is read beyond it. */
-static void answer(uint32_t length, uint32_t room)
+static void answer(c_text_reader *read, uint32_t length, uint32_t room)
 {
     uint8_t *lent = malloc(length + (length == 0)), *lent_room = malloc(room + (room == 0));
     need(lent != NULL && lent_room != NULL);
     memcpy(lent, text, length);
     memset(lent_room, BEFORE, room);
     size_t written = 0;
-    uint32_t refusal = c_text(lent, length, lent_room, room, &written);
+    uint32_t refusal = read(lent, length, lent_room, room, &written);
     memcpy(image, lent_room, room);
     free(lent);
     free(lent_room);
@@ -59,8 +59,13 @@ static void answer(uint32_t length, uint32_t room)
     printf(" rest %s\n", state(written, room));
 }
 
-int main(void)
+int main(int count, char **words)
 {
+    if (count != 2 || (strcmp(words[1], "plain") != 0 && strcmp(words[1], "tuned") != 0)) {
+        fputs("usage: text_answers plain|tuned < CASES\n", stderr);
+        return 2;
+    }
+    c_text_reader *read = strcmp(words[1], "plain") == 0 ? c_text : c_text_tuned;
     int operation;
     while ((operation = getchar()) != EOF) {
         need(operation == 6);
@@ -68,7 +73,7 @@ int main(void)
         need(length <= MOST_TEXT && fread(text, 1, length, stdin) == length);
         uint32_t room = take_number();
         need(room <= MOST_ROOM);
-        answer(length, room);
+        answer(read, length, room);
     }
     return 0;
 }

@@ -1,10 +1,10 @@
-/* Measures the engine's reader of texts against the plain C reader.
+/* Measures the engine's reader of texts against the two C readers, the plain one and the tuned one.
  *
  *     text_bench FILE ..
- *     text_bench --once engine|c|none FILE
+ *     text_bench --once engine|plain|tuned|none FILE
  *
- * The first form holds the two answers against each other and prints a line for each text: its bytes, the answer,
- * microseconds of C and engine (best of several runs, in turns), and engine over C. The second calls one reader once, or only
+ * The first form holds the three answers against each other and prints a line for each text: its bytes, the answer, and
+ * microseconds of plain C, tuned C and engine (best of several runs, in turns). The second calls one reader once, or only
  * loads the text, so that a tool outside can count instructions. The room is that of the longest image. */
 
 #define _POSIX_C_SOURCE 199309L
@@ -56,33 +56,51 @@ static void load(struct text *text, const char *path)
     fclose(file);
 }
 
-/* The C reader, its answer as the engine's. */
-static uint64_t c_reader(const uint8_t *text, size_t length, uint8_t *room, size_t room_length)
+/* A C reader's answer as the engine's. */
+static uint64_t answer_of(c_text_reader *read, const uint8_t *text, size_t length, uint8_t *room, size_t room_length)
 {
     size_t written = 0;
-    uint32_t refusal = c_text(text, length, room, room_length, &written);
+    uint32_t refusal = read(text, length, room, room_length, &written);
     return refusal != 0 ? (uint64_t)refusal << 32 : written;
 }
+
+static uint64_t plain(const uint8_t *text, size_t length, uint8_t *room, size_t room_length)
+{
+    return answer_of(c_text, text, length, room, room_length);
+}
+
+static uint64_t tuned(const uint8_t *text, size_t length, uint8_t *room, size_t room_length)
+{
+    return answer_of(c_text_tuned, text, length, room, room_length);
+}
+
+enum { PLAIN, TUNED, ENGINE, READERS };
+static reader *const readers[READERS] = {plain, tuned, wizogbare_text};
+static const char *const reader_names[READERS] = {"plain", "tuned", "engine"};
 
 static uint64_t call(reader *read, const struct text *text)
 {
     return read(text->bytes, text->length, image, sizeof image);
 }
 
-/* The one answer of both readers, and the one room that they leave. */
+/* The one answer of all readers, and the one room that they leave. */
 static uint64_t common_answer(const struct text *text)
 {
-    static uint8_t by_c[LONGEST_IMAGE];
-    memset(image, 0xa5, sizeof image);
-    uint64_t c = call(c_reader, text);
-    memcpy(by_c, image, sizeof image);
-    memset(image, 0xa5, sizeof image);
-    uint64_t engine = call(wizogbare_text, text);
-    if (c != engine)
-        stop(text->path, "the answers differ");
-    if (memcmp(by_c, image, sizeof image) != 0)
-        stop(text->path, "the rooms differ");
-    return c;
+    static uint8_t first_room[LONGEST_IMAGE];
+    uint64_t first = 0;
+    for (int i = 0; i < READERS; i++) {
+        memset(image, 0xa5, sizeof image);
+        uint64_t answer = call(readers[i], text);
+        if (i == 0) {
+            first = answer;
+            memcpy(first_room, image, sizeof image);
+        }
+        if (answer != first)
+            stop(text->path, "the answers differ");
+        if (memcmp(first_room, image, sizeof image) != 0)
+            stop(text->path, "the rooms differ");
+    }
+    return first;
 }
 
 static double now(void)
@@ -115,32 +133,40 @@ static void time_a_run(struct timing *timing, reader *read, const struct text *t
     timing->best = fmin(timing->best, seconds / timing->calls);
 }
 
+static int is_timed(const struct timing *timing)
+{
+    for (int i = 0; i < READERS; i++)
+        if (timing[i].all < ALL_SECONDS)
+            return 0;
+    return 1;
+}
+
 /* Prints the text's line. */
 static void measure(const struct text *text)
 {
     uint64_t answer = common_answer(text);
-    struct timing c = {calls_in_a_run(c_reader, text), INFINITY, 0}, engine = {calls_in_a_run(wizogbare_text, text), INFINITY, 0};
-    for (int runs = 0; runs < LEAST_RUNS || c.all < ALL_SECONDS || engine.all < ALL_SECONDS; runs++) {
-        time_a_run(&c, c_reader, text);
-        time_a_run(&engine, wizogbare_text, text);
-    }
+    struct timing timing[READERS];
+    for (int i = 0; i < READERS; i++)
+        timing[i] = (struct timing){calls_in_a_run(readers[i], text), INFINITY, 0};
+    for (int runs = 0; runs < LEAST_RUNS || !is_timed(timing); runs++)
+        for (int i = 0; i < READERS; i++)
+            time_a_run(&timing[i], readers[i], text);
     const char *slash = strrchr(text->path, '/');
     const char *word = answer >> 32 != 0 ? "refused" : "written";
     unsigned number = (unsigned)(answer >> 32 != 0 ? answer >> 32 : answer);
-    printf("%-14s %6zu %s %5u %10.2f %10.2f %7.2f\n", slash ? slash + 1 : text->path, text->length, word, number, c.best * 1e6,
-           engine.best * 1e6, engine.best / c.best);
+    printf("%-14s %6zu %s %5u %10.2f %10.2f %10.2f\n", slash ? slash + 1 : text->path, text->length, word, number,
+           timing[PLAIN].best * 1e6, timing[TUNED].best * 1e6, timing[ENGINE].best * 1e6);
     fflush(stdout);
 }
 
 static int call_once(const char *which, const struct text *text)
 {
-    if (strcmp(which, "engine") == 0)
-        call(wizogbare_text, text);
-    else if (strcmp(which, "c") == 0)
-        call(c_reader, text);
-    else
-        return strcmp(which, "none") == 0 ? 0 : 2;
-    return 0;
+    for (int i = 0; i < READERS; i++)
+        if (strcmp(which, reader_names[i]) == 0) {
+            call(readers[i], text);
+            return 0;
+        }
+    return strcmp(which, "none") == 0 ? 0 : 2;
 }
 
 int main(int count, char **words)
@@ -151,7 +177,7 @@ int main(int count, char **words)
         return call_once(words[2], &text);
     }
     if (count < 2) {
-        fputs("usage: text_bench FILE .. | text_bench --once engine|c|none FILE\n", stderr);
+        fputs("usage: text_bench FILE .. | text_bench --once engine|plain|tuned|none FILE\n", stderr);
         return 2;
     }
     for (int i = 1; i < count; i++) {
