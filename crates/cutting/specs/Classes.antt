@@ -1,4 +1,4 @@
--- The classes of bytes: blanks, tested one after the other, and that a small letter is a byte of a name.
+-- The classes of bytes, tested one part after the other.
 -- Assumes nothing.
 use Prim.Native.Nat.{ℕ}
 use mathlib.Core.Path.{_≡_, refl, ap, _∙_}
@@ -24,3 +24,19 @@ module _ (b : ℕ) where
   pub name-small : within 97 122 b ≡ true → inName b ≡ true
   unfolding inName small
   name-small e = ap (λ (q : Bool). q || within 65 90 b || within 48 57 b || eqb b 95) e
+
+  module _ (not-small : within 97 122 b ≡ false) where
+    pub name-great : within 65 90 b ≡ true → inName b ≡ true
+    unfolding inName small
+    name-great e = ap (λ (q : Bool). q || within 65 90 b || within 48 57 b || eqb b 95) not-small ∙ ap (λ (q : Bool). q || within 48 57 b || eqb b 95) e
+
+    module _ (not-great : within 65 90 b ≡ false) where
+      beyond-letters : inName b ≡ (within 48 57 b || eqb b 95)
+      unfolding inName small
+      beyond-letters = ap (λ (q : Bool). q || within 65 90 b || within 48 57 b || eqb b 95) not-small ∙ ap (λ (q : Bool). q || within 48 57 b || eqb b 95) not-great
+
+      pub name-digit : within 48 57 b ≡ true → inName b ≡ true
+      name-digit e = beyond-letters ∙ ap (λ (q : Bool). q || eqb b 95) e
+
+      pub name-last : within 48 57 b ≡ false → inName b ≡ eqb b 95
+      name-last e = beyond-letters ∙ ap (λ (q : Bool). q || eqb b 95) e

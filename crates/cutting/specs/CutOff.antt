@@ -39,12 +39,7 @@ pub record CutOff (text : List ℕ) (at found end hash : ℕ) : Type 0 where
   pub bucket : hash < buckets
   pub named : isName (wordAt text at) ≡ true → span inName (drop at text) .front ≡ wordAt text at
 
--- the run of letters, digits and underscores at a place: where it ends, and its hash
-pub record RunEnd (text : List ℕ) (at end : ℕ) : Type 0 where
-  pub long : end ≡ at + length (nameAt text at)
-  pub within : end ≤ length text
-  pub rest : span inName (drop at text) .rest ≡ drop end text
-
+-- the run of letters, digits and underscores at a place, where it ends, and its hash
 pub record RunAt (text : List ℕ) (at end hash : ℕ) : Type 0 where
   pub long : end ≡ at + length (nameAt text at)
   pub within : end ≤ length text

@@ -1,7 +1,6 @@
 -- Words cut off a text: what the code finds, and the laws that it leans on.
 pub mod CutOff
 pub mod Classes
-pub mod NameBytes
 pub mod Spans
 pub mod Begins
 pub mod RunCodes

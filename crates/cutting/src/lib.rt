@@ -29,25 +29,19 @@ use spelling::words::QUERY_WORD;
 use spelling::words::SEMICOLON_WORD;
 use spelling::words::TRUE_WORD;
 ghost use mathlib.Core.Path.{_≡_};
-ghost use mathlib.Core.List.{[]};
-ghost use Prim.Native.Nat.{_+_, _-_, _≤_, _<_};
+ghost use mathlib.Core.List.{[], _∷_};
+ghost use Prim.Native.Nat.{_+_, _≤_, _<_};
 ghost use lib.ListN.{length, drop};
 ghost use Rattle.image.specs.paper.Walk.{byteValues};
 ghost use Rattle.spelling.specs.paper.Words.{blank, inName, within, same};
 ghost use Rattle.spelling.specs.paper.Answer.{longestText};
 ghost use Rattle.spelling.specs.Cut.{begins};
-ghost use Rattle.spelling.specs.Codes.{codeOf, hashOf};
+ghost use Rattle.spelling.specs.Codes.{codeOf, buckets, hashFrom};
 ghost use Rattle.spelling.specs.Table.{nameAt};
-ghost use Rattle.cutting.specs.CutOff.{longestWord, BlanksEnd, CutOff, Fixed, RunEnd, RunAt, runCode};
+ghost use Rattle.cutting.specs.CutOff.{longestWord, BlanksEnd, CutOff, Fixed, RunAt, runCode};
 
-// What a run's length and bytes are taken times in its hash; the last byte counts once.
-const SIZE_FACTOR: usize = 97;
-
-const FIRST_FACTOR: usize = 613;
-
-const MIDDLE_FACTOR: usize = 1181;
-
-const SECOND_FACTOR: usize = 64;
+// The hash's factor.
+const HASH_FACTOR: usize = 31;
 
 pub struct Cut {
     pub code: u16,
@@ -117,270 +111,19 @@ fn is_within(least: u8, most: u8, b: u8) -> bool
     b <= most
 }
 
-// For each byte, whether it is one of A-Z a-z 0-9 _.
-const NAME_BYTES: [u8; 256] = [
-    0,
-    0,
-    0,
-    0,
-    0,
-    0,
-    0,
-    0,
-    0,
-    0,
-    0,
-    0,
-    0,
-    0,
-    0,
-    0,
-    0,
-    0,
-    0,
-    0,
-    0,
-    0,
-    0,
-    0,
-    0,
-    0,
-    0,
-    0,
-    0,
-    0,
-    0,
-    0,
-    0,
-    0,
-    0,
-    0,
-    0,
-    0,
-    0,
-    0,
-    0,
-    0,
-    0,
-    0,
-    0,
-    0,
-    0,
-    0,
-    1,
-    1,
-    1,
-    1,
-    1,
-    1,
-    1,
-    1,
-    1,
-    1,
-    0,
-    0,
-    0,
-    0,
-    0,
-    0,
-    0,
-    1,
-    1,
-    1,
-    1,
-    1,
-    1,
-    1,
-    1,
-    1,
-    1,
-    1,
-    1,
-    1,
-    1,
-    1,
-    1,
-    1,
-    1,
-    1,
-    1,
-    1,
-    1,
-    1,
-    1,
-    1,
-    1,
-    0,
-    0,
-    0,
-    0,
-    1,
-    0,
-    1,
-    1,
-    1,
-    1,
-    1,
-    1,
-    1,
-    1,
-    1,
-    1,
-    1,
-    1,
-    1,
-    1,
-    1,
-    1,
-    1,
-    1,
-    1,
-    1,
-    1,
-    1,
-    1,
-    1,
-    1,
-    1,
-    0,
-    0,
-    0,
-    0,
-    0,
-    0,
-    0,
-    0,
-    0,
-    0,
-    0,
-    0,
-    0,
-    0,
-    0,
-    0,
-    0,
-    0,
-    0,
-    0,
-    0,
-    0,
-    0,
-    0,
-    0,
-    0,
-    0,
-    0,
-    0,
-    0,
-    0,
-    0,
-    0,
-    0,
-    0,
-    0,
-    0,
-    0,
-    0,
-    0,
-    0,
-    0,
-    0,
-    0,
-    0,
-    0,
-    0,
-    0,
-    0,
-    0,
-    0,
-    0,
-    0,
-    0,
-    0,
-    0,
-    0,
-    0,
-    0,
-    0,
-    0,
-    0,
-    0,
-    0,
-    0,
-    0,
-    0,
-    0,
-    0,
-    0,
-    0,
-    0,
-    0,
-    0,
-    0,
-    0,
-    0,
-    0,
-    0,
-    0,
-    0,
-    0,
-    0,
-    0,
-    0,
-    0,
-    0,
-    0,
-    0,
-    0,
-    0,
-    0,
-    0,
-    0,
-    0,
-    0,
-    0,
-    0,
-    0,
-    0,
-    0,
-    0,
-    0,
-    0,
-    0,
-    0,
-    0,
-    0,
-    0,
-    0,
-    0,
-    0,
-    0,
-    0,
-    0,
-    0,
-    0,
-    0,
-    0,
-    0,
-    0,
-    0,
-    0,
-    0,
-    0,
-    0,
-    0,
-    0,
-    0,
-    0,
-    0,
-    0,
-    0,
-];
-
 pub fn in_name(b: u8) -> bool
     ensures { λ r. ⌜ r ≡ inName b ⌝ }
 {
-    NAME_BYTES[b as usize] == 1
+    if is_within(b'a', b'z', b) {
+        return true;
+    }
+    if is_within(b'A', b'Z', b) {
+        return true;
+    }
+    if is_within(b'0', b'9', b) {
+        return true;
+    }
+    b == b'_'
 }
 
 fn wide(b: u8) -> usize
@@ -390,62 +133,29 @@ fn wide(b: u8) -> usize
 }
 
 // The hash of a run with one byte more.
+fn hash_on(hash: usize, b: u8) -> usize
+    requires { ⌜ hash < buckets ⌝ }
+    ensures { λ r. ⌜ (r ≡ hashFrom hash (b ∷ [])) × (r < buckets) ⌝ }
+{
+    (HASH_FACTOR * hash + wide(b)) % BUCKETS
+}
+
 // The run of letters, digits and underscores at a place.
-fn run_end(text: &[u8], at: usize) -> usize
-    requires { ⌜ at ≤ length (now text) ⌝ }
-    ensures { λ r. ⌜ RunEnd (now (text .entry)) at r ⌝ }
-{
-    let mut i = at;
-    while i < text.len() {
-        if !in_name(text[i]) {
-            return i;
-        }
-        i += 1;
-    }
-    i
-}
-
-// The byte before the last, or the only one.
-fn second_last(n: usize) -> usize
-    ensures { λ r. ⌜ r ≡ n - 2 ⌝ }
-{
-    if n < 2 {
-        return 0;
-    }
-    n - 2
-}
-
-// The hash of the run from `at` to `end`.
-fn hash_of(text: &[u8], at: usize, end: usize) -> usize
-    requires { ⌜ (at < end) × RunEnd (now text) at end × (length (now text) ≤ longestText) ⌝ }
-    ensures { λ r. ⌜ r ≡ hashOf (nameAt (now (text .entry)) at) ⌝ }
-{
-    let n = end - at;
-    let first = wide(text[at]);
-    let middle = wide(text[at + n / 2]);
-    let second = wide(text[at + second_last(n)]);
-    let last = wide(text[at + (n - 1)]);
-    (SIZE_FACTOR * n
-        + FIRST_FACTOR * first
-        + MIDDLE_FACTOR * middle
-        + SECOND_FACTOR * second
-        + last)
-        % BUCKETS
-}
-
-// The run at a place, and its hash.
 fn run_at(text: &[u8], at: usize) -> Run
-    requires { ⌜ (at ≤ length (now text)) × (length (now text) ≤ longestText) ⌝ }
+    requires { ⌜ at ≤ length (now text) ⌝ }
     ensures { λ r. ⌜ RunAt (now (text .entry)) at (r .end) (r .hash) ⌝ }
 {
-    let end = run_end(text, at);
-    if end == at {
-        return Run { end, hash: 0 };
+    let mut i = at;
+    let mut hash = 0;
+    while i < text.len() {
+        let b = text[i];
+        if !in_name(b) {
+            return Run { end: i, hash };
+        }
+        hash = hash_on(hash, b);
+        i += 1;
     }
-    Run {
-        end,
-        hash: hash_of(text, at, end),
-    }
+    Run { end: i, hash }
 }
 
 // The cut of a fixed word.

@@ -1,8 +1,7 @@
 -- The words as the code holds them: a number for each fixed word, one for a word that no document has, and above them the names, by their
 -- places in a list of names.
 -- Assumes nothing.
-use Prim.Native.Nat.{ℕ, _+_, _-_, _*_, _/_, _%_}
-use lib.ListN.{length, getD}
+use Prim.Native.Nat.{ℕ, _+_, _*_, _%_}
 use mathlib.Core.List.{List, [], _∷_, map}
 use Rattle.base.specs.paper.Bools.{choose}
 use Rattle.spelling.specs.paper.Words.{Word, abd, naf, close, comma, semicolon, dot, neck, arrow, query, trueWord, falseWord, isName}
@@ -64,9 +63,9 @@ codesOf names ws = map (codeOf names) ws
 abbrev pub buckets : ℕ
 buckets = 4096
 
--- a name's bucket goes by its length and by four of its bytes: the first, the middle one, and the last two
-unfoldable pub hashBy : ℕ → ℕ → ℕ → ℕ → ℕ → ℕ
-hashBy size first middle second last = (97 * size + 613 * first + 1181 * middle + 64 * second + last) % buckets
+unfoldable pub hashFrom : ℕ → Word → ℕ
+hashFrom h [] = h
+hashFrom h (b ∷ w) = hashFrom ((31 * h + b) % buckets) w
 
-unfoldable pub hashOf : Word → ℕ
-hashOf w = hashBy (length w) (getD w 0 0) (getD w (length w / 2) 0) (getD w (length w - 2) 0) (getD w (length w - 1) 0)
+abbrev pub hashOf : Word → ℕ
+hashOf w = hashFrom 0 w

@@ -1,26 +1,59 @@
 -- `cutting::run_at` meets its contract. Assumes nothing.
+use Prim.Native.Nat.{_-_}
 use native.Mathlib.Omega.{arith}
-use mathlib.Core.Path.{sym, ap, _∙_}
+use mathlib.Core.Path.{sym, _∙_}
 use borrow.Author.Needs.{needs}
-use Rattle.spelling.specs.Codes.{hashOf}
-use Rattle.spelling.specs.Table.{nameAt}
-use Rattle.cutting.specs.Spans.{no-name, hash-none, run-at}
+use borrow.Author.Tests.{not-true, not-false}
+use lib.ListN.{length}
+use Rattle.cutting.specs.Spans.{Running, running-first, running-more, run-met, run-over}
 use Rattle.cutting.proofs.run_at.Statement.{statement}
 use Rattle.cutting.proofs.run_at.Tie as tie
 
-returns : tie.Need-returns
-returns c =
-    let r = c .before .run-end .ensures in
-    let a = c .before .before .before .args in
-    run-at r (sym (ap hashOf (no-name (nameAt (a .text .now) (a .at)) (omega (arith, r .long, c .if1 .taken))) ∙ hash-none))
+abbrev Inv-loop : tie.InvT-loop
+Inv-loop text at i₀ hash₀ i hash = Running text at i hash
 
-hash-of-requires : tie.Need-hash-of-requires
-hash-of-requires c κs =
-    let r = c .before .run-end .ensures in
-    (omega (arith, r .long, c .if1 .left), r, c .before .before .before .pre .1)
+abbrev μ-loop : tie.MeasureT-loop
+μ-loop text at i₀ hash₀ i hash = length text - i
 
-returns-2 : tie.Need-returns-2
-returns-2 c = run-at (c .before .before .run-end .ensures) (c .hash-of .ensures)
+loop-holds : tie.Need-loop-holds Inv-loop μ-loop
+loop-holds c = running-first _ _ (c .before .pre)
+
+shared-slice-read-b : tie.Need-shared-slice-read-b Inv-loop μ-loop
+shared-slice-read-b c = omega arith
+
+in-name-requires : tie.Need-in-name-requires Inv-loop μ-loop
+in-name-requires c κs = search needs
+
+returns : tie.Need-returns Inv-loop μ-loop
+returns c = run-met _ _ _ _ (c .before .before .before .before .loop .inv) (c .before .before .before .loop-test .taken) (sym (c .before .in-name .ensures) ∙ not-true _ (c .if1 .taken))
+
+hash-on-requires : tie.Need-hash-on-requires Inv-loop μ-loop
+hash-on-requires c κs = c .before .before .before .before .loop .inv .bucket
+
+add-i : tie.Need-add-i Inv-loop μ-loop
+add-i c = omega arith
+
+loop-less : tie.Need-loop-less Inv-loop μ-loop
+loop-less c = omega arith
+
+loop-again : tie.Need-loop-again Inv-loop μ-loop
+loop-again c = running-more _ _ _ _ (c .before .before .before .before .before .loop .inv) _ (c .before .before .before .before .loop-test .taken) (sym (c .before .before .in-name .ensures) ∙ not-false _ (c .before .if1 .left)) (c .hash-on .ensures .0) (c .hash-on .ensures .1)
+
+returns-2 : tie.Need-returns-2 Inv-loop μ-loop
+returns-2 c = run-over _ _ _ _ (c .before .loop .inv) (c .loop-test .left)
 
 pub run-at-spec : {M : Type 1} → statement M
-run-at-spec = tie.close (tie.spec (λ c κs. search needs) returns hash-of-requires returns-2)
+run-at-spec =
+    tie.close
+    (tie.spec
+    Inv-loop
+    μ-loop
+    loop-holds
+    shared-slice-read-b
+    in-name-requires
+    returns
+    hash-on-requires
+    add-i
+    loop-less
+    loop-again
+    returns-2)
