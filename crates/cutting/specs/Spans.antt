@@ -1,6 +1,6 @@
 -- A span over a text, a byte at a time: what a loop over blanks and one over a run go by.
 -- Assumes nothing.
-use Prim.Native.Nat.{ℕ, _+_, _<_, _≤_}
+use Prim.Native.Nat.{ℕ, _+_, _%_, _<_, _≤_}
 use native.Mathlib.Omega.{arith}
 use mathlib.Core.Path.{_≡_, refl, sym, ap, _∙_}
 use mathlib.Core.Bool.{Bool, true, false}
@@ -10,7 +10,7 @@ use Rattle.base.specs.Bools.{choose-true, choose-false}
 use Rattle.base.specs.Stores.{next-all}
 use Rattle.spelling.specs.paper.Words.{Word, blank, inName}
 use Rattle.spelling.specs.Cut.{Cut, cutting, behind, span}
-use Rattle.spelling.specs.Codes.{buckets, hashFrom, hashOf}
+use Rattle.spelling.specs.Codes.{buckets, hashValues, hashFrom, hashOf}
 use Rattle.spelling.specs.Table.{nameAt}
 use Rattle.cutting.specs.CutOff.{BlanksEnd, RunAt}
 
@@ -66,15 +66,15 @@ pub record Running (text : List ℕ) (at i hash : ℕ) : Type 0 where
   pub long : at + length (nameAt text at) ≡ i + length (nameAt text i)
   pub within : i ≤ length text
   pub rest : span inName (drop at text) .rest ≡ span inName (drop i text) .rest
-  pub hashed : hashOf (nameAt text at) ≡ hashFrom hash (nameAt text i)
-  pub bucket : hash < buckets
+  pub hashed : hashFrom 0 (nameAt text at) ≡ hashFrom hash (nameAt text i)
+  pub bounded : hash < hashValues
 
 module _ (text : List ℕ) (at : ℕ) where
   pub running-first : at ≤ length text → Running text at at 0
-  running-first h = record { long = refl; within = h; rest = refl; hashed = refl; bucket = omega arith }
+  running-first h = record { long = refl; within = h; rest = refl; hashed = refl; bounded = omega arith }
 
   module _ (i hash : ℕ) (so : Running text at i hash) where
-    pub running-more : (next : ℕ) → i < length text → inName (getD text i 0) ≡ true → next ≡ hashFrom hash (getD text i 0 ∷ []) → next < buckets
+    pub running-more : (next : ℕ) → i < length text → inName (getD text i 0) ≡ true → next ≡ hashFrom hash (getD text i 0 ∷ []) → next < hashValues
         → Running text at (i + 1) next
     unfolding hashFrom
     running-more next h e n b =
@@ -85,11 +85,11 @@ module _ (text : List ℕ) (at : ℕ) where
           within = omega arith;
           rest = so .rest ∙ ap rest (span-met inName text i h e);
           hashed = so .hashed ∙ ap (hashFrom hash) more ∙ ap (λ (g : ℕ). hashFrom g (nameAt text (i + 1))) (sym n);
-          bucket = b;
+          bounded = b;
         }
 
-    run-stop : span inName (drop i text) ≡ cutting [] (drop i text) → RunAt text at i hash
-    unfolding hashFrom
+    run-stop : span inName (drop i text) ≡ cutting [] (drop i text) → RunAt text at i (hash % buckets)
+    unfolding hashFrom hashOf
     run-stop e =
         let none : nameAt text i ≡ [] = ap front e in
         let zero = ap length none in
@@ -97,12 +97,12 @@ module _ (text : List ℕ) (at : ℕ) where
           long = sym (so .long ∙ omega arith);
           within = so .within;
           rest = so .rest ∙ ap rest e;
-          hashed = sym (so .hashed ∙ ap (hashFrom hash) none);
-          bucket = so .bucket;
+          hashed = ap (λ (h : ℕ). h % buckets) (sym (so .hashed ∙ ap (hashFrom hash) none));
+          bucket = omega arith;
         }
 
-    pub run-met : i < length text → inName (getD text i 0) ≡ false → RunAt text at i hash
+    pub run-met : i < length text → inName (getD text i 0) ≡ false → RunAt text at i (hash % buckets)
     run-met h e = run-stop (span-unmet inName text i h e)
 
-    pub run-over : length text ≤ i → RunAt text at i hash
+    pub run-over : length text ≤ i → RunAt text at i (hash % buckets)
     run-over h = run-stop (span-over inName text i h)

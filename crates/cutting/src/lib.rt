@@ -36,12 +36,14 @@ ghost use Rattle.image.specs.paper.Walk.{byteValues};
 ghost use Rattle.spelling.specs.paper.Words.{blank, inName, within, same};
 ghost use Rattle.spelling.specs.paper.Answer.{longestText};
 ghost use Rattle.spelling.specs.Cut.{begins};
-ghost use Rattle.spelling.specs.Codes.{codeOf, buckets, hashFrom};
+ghost use Rattle.spelling.specs.Codes.{codeOf, hashValues, hashFrom};
 ghost use Rattle.spelling.specs.Table.{nameAt};
 ghost use Rattle.cutting.specs.CutOff.{longestWord, BlanksEnd, CutOff, Fixed, RunAt, runCode};
 
-// The hash's factor.
-const HASH_FACTOR: usize = 31;
+// The hash's factor, and what it stays below on the way.
+const HASH_FACTOR: usize = 9;
+
+const HASH_VALUES: usize = 1 << 32;
 
 pub struct Cut {
     pub code: u16,
@@ -134,10 +136,10 @@ fn wide(b: u8) -> usize
 
 // The hash of a run with one byte more.
 fn hash_on(hash: usize, b: u8) -> usize
-    requires { ⌜ hash < buckets ⌝ }
-    ensures { λ r. ⌜ (r ≡ hashFrom hash (b ∷ [])) × (r < buckets) ⌝ }
+    requires { ⌜ hash < hashValues ⌝ }
+    ensures { λ r. ⌜ (r ≡ hashFrom hash (b ∷ [])) × (r < hashValues) ⌝ }
 {
-    (HASH_FACTOR * hash + wide(b)) % BUCKETS
+    (HASH_FACTOR * hash + wide(b)) % HASH_VALUES
 }
 
 // The run of letters, digits and underscores at a place.
@@ -150,12 +152,18 @@ fn run_at(text: &[u8], at: usize) -> Run
     while i < text.len() {
         let b = text[i];
         if !in_name(b) {
-            return Run { end: i, hash };
+            return Run {
+                end: i,
+                hash: hash % BUCKETS,
+            };
         }
         hash = hash_on(hash, b);
         i += 1;
     }
-    Run { end: i, hash }
+    Run {
+        end: i,
+        hash: hash % BUCKETS,
+    }
 }
 
 // The cut of a fixed word.

@@ -63,9 +63,14 @@ codesOf names ws = map (codeOf names) ws
 abbrev pub buckets : ℕ
 buckets = 4096
 
+-- a hash is kept below this on the way
+abbrev pub hashValues : ℕ
+hashValues = 4294967296
+
 unfoldable pub hashFrom : ℕ → Word → ℕ
 hashFrom h [] = h
-hashFrom h (b ∷ w) = hashFrom ((31 * h + b) % buckets) w
+hashFrom h (b ∷ w) = hashFrom ((9 * h + b) % hashValues) w
 
-abbrev pub hashOf : Word → ℕ
-hashOf w = hashFrom 0 w
+-- the bucket of a word
+unfoldable pub hashOf : Word → ℕ
+hashOf w = hashFrom 0 w % buckets

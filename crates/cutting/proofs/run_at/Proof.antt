@@ -28,7 +28,7 @@ returns : tie.Need-returns Inv-loop μ-loop
 returns c = run-met _ _ _ _ (c .before .before .before .before .loop .inv) (c .before .before .before .loop-test .taken) (sym (c .before .in-name .ensures) ∙ not-true _ (c .if1 .taken))
 
 hash-on-requires : tie.Need-hash-on-requires Inv-loop μ-loop
-hash-on-requires c κs = c .before .before .before .before .loop .inv .bucket
+hash-on-requires c κs = c .before .before .before .before .loop .inv .bounded
 
 add-i : tie.Need-add-i Inv-loop μ-loop
 add-i c = omega arith
