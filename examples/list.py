@@ -1,6 +1,6 @@
 """Lists the smallest explanations of a book: list.py LIBRARY FILE.
 
-LIBRARY is a shared object with the five calls, which examples/run makes of the archive; Python must run on x86-64."""
+LIBRARY is a shared object with the calls, which examples/run makes of the archive; Python must run on x86-64."""
 
 import ctypes
 import sys
