@@ -8,6 +8,8 @@ use mathlib.Core.Bool.{Bool, true, false, not}
 use mathlib.Core.List.{List, [], _∷_, _++_}
 use lib.ListN.{length, getD, take, drop, take-append-drop, length-append, length-drop, List·getD-append}
 use lib.Seq.{take-append-seam, getD-append-seam, getD-drop}
+use lib.Dec.{eqb}
+use borrow.Author.Tests.{eqb-true, eqb-false}
 use Rattle.base.specs.paper.Bools.{choose}
 use Rattle.base.specs.Bools.{clash}
 use Rattle.base.specs.Stores.{next-all, front as one-more}
@@ -126,3 +128,54 @@ same-more text at there i l m e f =
     ∙ ap (λ (z : List ℕ). z ++ getD (drop at text) i 0 ∷ []) e
     ∙ ap (λ (c : ℕ). take i (drop there text) ++ c ∷ []) (getD-drop at text i 0 ∙ f ∙ sym (getD-drop there text i 0))
     ∙ sym (one-more (drop there text) i (omega (arith, length-drop there text)))
+
+-- the first i bytes are the same
+abbrev pub SameSoFar : List ℕ → ℕ → ℕ → ℕ → ℕ → Type 0
+SameSoFar text at there n i = (i ≤ n) × (take i (drop at text) ≡ take i (drop there text))
+
+-- ---- four bytes in a turn
+
+pub data FourSame (text : List ℕ) (a b : ℕ) : Bool → Type 0 where
+  all-same : getD text a 0 ≡ getD text b 0 → getD text (a + 1) 0 ≡ getD text (b + 1) 0 → getD text (a + 2) 0 ≡ getD text (b + 2) 0
+      → getD text (a + 3) 0 ≡ getD text (b + 3) 0 → FourSame text a b true
+  one-other : (k : ℕ) → k < 4 → (getD text (a + k) 0 ≡ getD text (b + k) 0 → ⊥) → FourSame text a b false
+
+pub first-other : (text : List ℕ) (a b : ℕ) → (getD text a 0 ≡ getD text b 0 → ⊥) → FourSame text a b false
+first-other text a b h =
+    let x : a + 0 ≡ a = omega arith in
+    let y : b + 0 ≡ b = omega arith in
+    one-other 0 (omega arith) (λ e. h (ap (λ (j : ℕ). getD text j 0) (sym x) ∙ e ∙ ap (λ (j : ℕ). getD text j 0) y))
+
+pub last-same : (text : List ℕ) (a b : ℕ) → getD text a 0 ≡ getD text b 0 → getD text (a + 1) 0 ≡ getD text (b + 1) 0 → getD text (a + 2) 0 ≡ getD text (b + 2) 0
+    → FourSame text a b (eqb (getD text (a + 3) 0) (getD text (b + 3) 0))
+last-same text a b e f g = go (eqb (getD text (a + 3) 0) (getD text (b + 3) 0)) refl
+  where
+    go : (t : Bool) → eqb (getD text (a + 3) 0) (getD text (b + 3) 0) ≡ t → FourSame text a b t
+    go true h = all-same e f g (eqb-true (getD text (a + 3) 0) (getD text (b + 3) 0) h)
+    go false h = one-other 3 (omega arith) (eqb-false (getD text (a + 3) 0) (getD text (b + 3) 0) h)
+
+module _ {text : List ℕ} {at n : ℕ} (name : Name text at n) (there : ℕ) (before : there < at) (i : ℕ) (room : i + 4 ≤ n) where
+  pub four-other : FourSame text (at + i) (there + i) false → same (nameAt text at) (nameAt text there) ≡ false
+  four-other (one-other k h d) =
+      let x : at + (i + k) ≡ at + i + k = omega arith in
+      let y : there + (i + k) ≡ there + i + k = omega arith in
+      other-byte name there before (i + k) (omega arith) (λ e. d (ap (λ (j : ℕ). getD text j 0) (sym x) ∙ e ∙ ap (λ (j : ℕ). getD text j 0) y))
+
+  pub four-more : FourSame text (at + i) (there + i) true → SameSoFar text at there n i → SameSoFar text at there n (i + 4)
+  four-more (all-same e f g h) (l, s) =
+      let fits : at + n ≤ length text = name .within in
+      let one : (k : ℕ) → k < 4 → getD text (at + i + k) 0 ≡ getD text (there + i + k) 0 → take (i + k) (drop at text) ≡ take (i + k) (drop there text)
+      → take (i + (k + 1)) (drop at text) ≡ take (i + (k + 1)) (drop there text) =
+      λ k q d t.
+      let x : at + (i + k) ≡ at + i + k = omega arith in
+      let y : there + (i + k) ≡ there + i + k = omega arith in
+      let z : i + k + 1 ≡ i + (k + 1) = omega arith in
+      subst (λ (j : ℕ). take j (drop at text) ≡ take j (drop there text)) z
+      (same-more text at there (i + k) (omega arith) (omega arith) t (ap (λ (j : ℕ). getD text j 0) x ∙ d ∙ ap (λ (j : ℕ). getD text j 0) (sym y))) in
+      let p : at + i + 0 ≡ at + i = omega arith in
+      let q : there + i + 0 ≡ there + i = omega arith in
+      let none : i + 0 ≡ i = omega arith in (
+        omega arith,
+        one 3 (omega arith) h (one 2 (omega arith) g (one 1 (omega arith) f (one 0 (omega arith) (ap (λ (j : ℕ). getD text j 0) p ∙ e ∙ ap (λ (j : ℕ). getD text j 0) (sym q))
+            (subst (λ (j : ℕ). take j (drop at text) ≡ take j (drop there text)) (sym none) s)))),
+      )

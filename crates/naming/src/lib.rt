@@ -17,19 +17,36 @@ ghost use Rattle.spelling.specs.paper.Answer.{longestText};
 ghost use Rattle.spelling.specs.Reader.{atomOf};
 ghost use Rattle.spelling.specs.Codes.{buckets};
 ghost use Rattle.spelling.specs.Table.{nameAt, bit};
-ghost use Rattle.naming.specs.Spans.{Name};
+ghost use Rattle.naming.specs.Spans.{Name, SameSoFar, FourSame};
 ghost use Rattle.naming.specs.Chains.{Chained, placeOf};
 ghost use Rattle.cutting.specs.CutOff.{wordAt};
 ghost use Rattle.naming.specs.Names.{Sought, Written, Listed, NameTaken};
 ghost use Rattle.naming.specs.Words.{Past, WordTaken};
 ghost use Rattle.naming.specs.Taken.{Ready, TakenWords};
 
-// Whether the name of `n` bytes at `at` is the one that stands before it, at `there`.
-fn same_name(text: &[u8], at: usize, there: usize, n: usize) -> bool
-    requires { ⌜ Name (now text) at n × (there < at) ⌝ }
+// Whether the four bytes at `a` and at `b` are the same.
+fn four_same(text: &[u8], a: usize, b: usize) -> bool
+    requires { ⌜ (a + 4 ≤ length (now text)) × (b + 4 ≤ length (now text)) ⌝ }
+    ensures { λ r. ⌜ FourSame (now (text .entry)) a b r ⌝ }
+{
+    if text[a] != text[b] {
+        return false;
+    }
+    if text[a + 1] != text[b + 1] {
+        return false;
+    }
+    if text[a + 2] != text[b + 2] {
+        return false;
+    }
+    text[a + 3] == text[b + 3]
+}
+
+// Whether the name of `n` bytes at `at` is the one that stands before it, at `there`, if their first `from` bytes are the same.
+fn rest_same(text: &[u8], at: usize, there: usize, from: usize, n: usize) -> bool
+    requires { ⌜ Name (now text) at n × (there < at) × SameSoFar (now text) at there n from ⌝ }
     ensures { λ r. ⌜ r ≡ same (nameAt (now (text .entry)) at) (nameAt (now (text .entry)) there) ⌝ }
 {
-    let mut i = 0;
+    let mut i = from;
     while i < n {
         if text[at + i] != text[there + i] {
             return false;
@@ -37,6 +54,21 @@ fn same_name(text: &[u8], at: usize, there: usize, n: usize) -> bool
         i += 1;
     }
     !in_name(text[there + n])
+}
+
+// Whether the name of `n` bytes at `at` is the one that stands before it, at `there`: four bytes in a turn.
+fn same_name(text: &[u8], at: usize, there: usize, n: usize) -> bool
+    requires { ⌜ Name (now text) at n × (there < at) ⌝ }
+    ensures { λ r. ⌜ r ≡ same (nameAt (now (text .entry)) at) (nameAt (now (text .entry)) there) ⌝ }
+{
+    let mut i = 0;
+    while i + 4 <= n {
+        if !four_same(text, at + i, there + i) {
+            return false;
+        }
+        i += 4;
+    }
+    rest_same(text, at, there, i, n)
 }
 
 // 1 + the place in the table of the name at `at`, or 0.

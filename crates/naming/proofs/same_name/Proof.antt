@@ -1,15 +1,15 @@
 -- `naming::same_name` meets its contract. Assumes nothing.
-use Prim.Native.Nat.{ℕ, _-_, _≤_}
+use Prim.Native.Nat.{_-_}
 use native.Mathlib.Omega.{arith}
-use mathlib.Core.Path.{_≡_, refl, sym, ap, _∙_, subst}
-use mathlib.Core.Bool.{not}
-use lib.ListN.{take, drop}
-use Rattle.naming.specs.Spans.{other-byte, told, same-more}
+use mathlib.Core.Path.{refl, sym, subst}
+use borrow.Author.Tests.{not-true, not-false}
+use Rattle.naming.specs.Spans.{SameSoFar, FourSame, four-other, four-more}
+use borrow.Author.Needs.{needs}
 use Rattle.naming.proofs.same_name.Statement.{statement}
 use Rattle.naming.proofs.same_name.Tie as tie
 
 abbrev Inv-loop : tie.InvT-loop
-Inv-loop text at there n i₀ i = (i ≤ n) × (take i (drop at text) ≡ take i (drop there text))
+Inv-loop text at there n i₀ i = SameSoFar text at there n i
 
 abbrev μ-loop : tie.MeasureT-loop
 μ-loop text at there n i₀ i = n - i
@@ -17,52 +17,32 @@ abbrev μ-loop : tie.MeasureT-loop
 loop-holds : tie.Need-loop-holds Inv-loop μ-loop
 loop-holds c = (omega arith, refl)
 
-add-if1 : tie.Need-add-if1 Inv-loop μ-loop
-add-if1 c = omega arith
-
-shared-slice-read-if1 : tie.Need-shared-slice-read-if1 Inv-loop μ-loop
-shared-slice-read-if1 c = omega arith
-
-add-if1-2 : tie.Need-add-if1-2 Inv-loop μ-loop
-add-if1-2 c = omega arith
-
-shared-slice-read-if1-2 : tie.Need-shared-slice-read-if1-2 Inv-loop μ-loop
-shared-slice-read-if1-2 c = omega arith
+four-same-requires : tie.Need-four-same-requires Inv-loop μ-loop
+four-same-requires c κs =
+    let e = c .before .before .before in
+    let fits = e .pre .0 .within in
+    (omega (arith, fits, c .loop-test .taken), omega (arith, fits, c .loop-test .taken, e .pre .1))
 
 returns : tie.Need-returns Inv-loop μ-loop
 returns c =
-    let e = c .before .before .before .before .before .before in
-    sym (other-byte (e .pre .0) (e .args .there) (e .pre .1) (c .before .before .before .before .loop .i) (omega arith) (c .if1 .taken))
-
-add-i : tie.Need-add-i Inv-loop μ-loop
-add-i c = omega arith
-
-loop-less : tie.Need-loop-less Inv-loop μ-loop
-loop-less c = omega arith
+    let e = c .before .before .before .before .before in
+    sym
+    (four-other (e .pre .0) (e .args .there) (e .pre .1) (c .before .before .before .loop .i) (c .before .before .loop-test .taken)
+    (subst (FourSame _ _ _) (not-true _ (c .if1 .taken)) (c .before .four-same .ensures)))
 
 loop-again : tie.Need-loop-again Inv-loop μ-loop
 loop-again c =
-    let e = c .before .before .before .before .before .before in
-    let l = c .before .before .before .before .loop in
-    (omega arith, same-more (e .args .text .now) (e .args .at) (e .args .there) (l .i) (omega arith) (omega arith) (l .inv .1) (c .if1 .left))
+    let e = c .before .before .before .before .before in
+    four-more (e .pre .0) (e .args .there) (e .pre .1) (c .before .before .before .loop .i) (c .before .before .loop-test .taken)
+    (subst (FourSame _ _ _) (not-false _ (c .if1 .left)) (c .before .four-same .ensures)) (c .before .before .before .loop .inv)
 
-add-in-name : tie.Need-add-in-name Inv-loop μ-loop
-add-in-name c = omega arith
-
-shared-slice-read-in-name : tie.Need-shared-slice-read-in-name Inv-loop μ-loop
-shared-slice-read-in-name c = omega arith
-
-in-name-requires : tie.Need-in-name-requires Inv-loop μ-loop
-in-name-requires c κs = tt
+rest-same-requires : tie.Need-rest-same-requires Inv-loop μ-loop
+rest-same-requires c κs =
+    let e = c .before .before .before in
+    (e .pre .0, e .pre .1, c .before .loop .inv)
 
 returns-2 : tie.Need-returns-2 Inv-loop μ-loop
-returns-2 c =
-    let e = c .before .before .before .before .before in
-    let l = c .before .before .before .loop in
-    let all : l .i ≡ e .args .n = omega arith in
-    ap not (c .in-name .ensures)
-    ∙ told (e .pre .0) (e .args .there) (e .pre .1)
-    (subst (λ (k : ℕ). take k (drop (e .args .at) (e .args .text .now)) ≡ take k (drop (e .args .there) (e .args .text .now))) all (l .inv .1))
+returns-2 c = c .rest-same .ensures
 
 pub same-name-spec : {M : Type 1} → statement M
 same-name-spec =
@@ -71,15 +51,13 @@ same-name-spec =
     Inv-loop
     μ-loop
     loop-holds
-    add-if1
-    shared-slice-read-if1
-    add-if1-2
-    shared-slice-read-if1-2
+    (λ c. omega arith)
+    (λ c. omega arith)
+    (λ c. omega arith)
+    four-same-requires
     returns
-    add-i
-    loop-less
+    (λ c. omega arith)
+    (λ c. omega arith)
     loop-again
-    add-in-name
-    shared-slice-read-in-name
-    in-name-requires
+    rest-same-requires
     returns-2)
