@@ -142,7 +142,7 @@ fn hash_on(hash: usize, b: u8) -> usize
     (HASH_FACTOR * hash + wide(b)) % HASH_VALUES
 }
 
-// The run of letters, digits and underscores at a place.
+// The run of letters, digits and underscores at a place. Most are small letters, which are tested first and apart.
 fn run_at(text: &[u8], at: usize) -> Run
     requires { ⌜ at ≤ length (now text) ⌝ }
     ensures { λ r. ⌜ RunAt (now (text .entry)) at (r .end) (r .hash) ⌝ }
@@ -151,14 +151,19 @@ fn run_at(text: &[u8], at: usize) -> Run
     let mut hash = 0;
     while i < text.len() {
         let b = text[i];
-        if !in_name(b) {
-            return Run {
-                end: i,
-                hash: hash % BUCKETS,
-            };
+        if is_within(b'a', b'z', b) {
+            hash = hash_on(hash, b);
+            i += 1;
+        } else {
+            if !in_name(b) {
+                return Run {
+                    end: i,
+                    hash: hash % BUCKETS,
+                };
+            }
+            hash = hash_on(hash, b);
+            i += 1;
         }
-        hash = hash_on(hash, b);
-        i += 1;
     }
     Run {
         end: i,
