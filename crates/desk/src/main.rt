@@ -11,7 +11,7 @@
 //                                           for list
 //   join ROOM                               joined K | refused R, then ` sets` and the room's entries; the two lists are on
 //                                           standard input, each a count of two bytes and its sets of eight, big-endian
-//   image TEXT ROOM                         written N bytes, the bytes in hex, rest untouched | refused R room untouched (crate rooms)
+//   image TEXT ROOM                         written N bytes, the bytes in hex, rest untouched | refused R room untouched (crate texts)
 //   names TEXT ROOM                         as for image
 //
 // Where there is no answer: `unknown` for another job, `unlisted` where standard input does not have the two lists, and
@@ -128,38 +128,6 @@ fn join() {
     answers::join(&left[..a], &right[..b], &mut out[..c]);
 }
 
-fn image() {
-    let mut text = files::text_buffer();
-    let mut room = rooms::room_buffer();
-    let taken = files::take_file(FIRST, &mut text);
-    if !taken.ok {
-        return;
-    }
-    let space = numbers::take_room(SECOND, rooms::ROOM);
-    if !space.ok {
-        return;
-    }
-    let n = taken.value;
-    let r = space.value;
-    rooms::read(&text[..n], &mut room[..r]);
-}
-
-fn names() {
-    let mut text = files::text_buffer();
-    let mut room = rooms::room_buffer();
-    let taken = files::take_file(FIRST, &mut text);
-    if !taken.ok {
-        return;
-    }
-    let space = numbers::take_room(SECOND, rooms::ROOM);
-    if !space.ok {
-        return;
-    }
-    let n = taken.value;
-    let r = space.value;
-    rooms::names(&text[..n], &mut room[..r]);
-}
-
 fn main() {
     if asked(b"check") {
         check();
@@ -172,9 +140,9 @@ fn main() {
     } else if asked(b"join") {
         join();
     } else if asked(b"image") {
-        image();
+        texts::image();
     } else if asked(b"names") {
-        names();
+        texts::names();
     } else {
         output::line(b"unknown");
     }

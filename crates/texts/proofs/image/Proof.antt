@@ -1,12 +1,12 @@
--- `desk::names` is safe. Assumes nothing.
+-- `texts::image` is safe. Assumes nothing.
 use native.Mathlib.Omega.{arith}
 use lib.ListN.{length-take}
 use borrow.Author.Needs.{needs}
-use Rattle.desk.proofs.names.Statement.{statement}
-use Rattle.desk.proofs.names.Tie as tie
+use Rattle.texts.proofs.image.Statement.{statement}
+use Rattle.texts.proofs.image.Tie as tie
 
-pub names-spec : {M : Type 1} → statement M
-names-spec =
+pub image-spec : {M : Type 1} → statement M
+image-spec =
     tie.close
     (tie.spec
     (λ c κs. search needs)
