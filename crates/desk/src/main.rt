@@ -11,134 +11,28 @@
 //                                           for list
 //   join ROOM                               joined K | refused R, then ` sets` and the room's entries; the two lists are on
 //                                           standard input, each a count of two bytes and its sets of eight, big-endian
-//   image TEXT ROOM                         written N bytes, the bytes in hex, rest untouched | refused R room untouched (crate texts)
+//   image TEXT ROOM                         written N bytes, the bytes in hex, rest untouched | refused R room untouched (crate rooms)
 //   names TEXT ROOM                         as for image
 //
 // Where there is no answer: `unknown` for another job, `unlisted` where standard input does not have the two lists, and
 // `unfit P`, `unopened P` and `unread P` for argument P (crate arguments).
+//
+// A job is found by its name here; the first five are in crate jobs, the last two in crate texts.
 
 use arguments::asked;
-use arguments::files;
-use arguments::numbers;
-use cases::input;
 use cases::output;
-
-// The places of what a job takes: argument 1 is the job itself.
-const FIRST: usize = 2;
-
-const SECOND: usize = 3;
-
-const THIRD: usize = 4;
-
-const FOURTH: usize = 5;
-
-fn check() {
-    let mut image = files::image_buffer();
-    let taken = files::take_file(FIRST, &mut image);
-    if !taken.ok {
-        return;
-    }
-    let n = taken.value;
-    answers::read(&image[..n]);
-}
-
-fn judge() {
-    let mut image = files::image_buffer();
-    let taken = files::take_file(FIRST, &mut image);
-    if !taken.ok {
-        return;
-    }
-    let set = numbers::take_set(SECOND);
-    if !set.ok {
-        return;
-    }
-    let n = taken.value;
-    answers::judge(&image[..n], set.value);
-}
-
-fn list() {
-    let mut image = files::image_buffer();
-    let mut sets = input::list_buffer();
-    let mut work = input::work_buffer();
-    let taken = files::take_file(FIRST, &mut image);
-    if !taken.ok {
-        return;
-    }
-    let budget = numbers::take_number(SECOND);
-    if !budget.ok {
-        return;
-    }
-    let room = numbers::take_room(THIRD, input::ENTRIES);
-    if !room.ok {
-        return;
-    }
-    let n = taken.value;
-    let r = room.value;
-    answers::list(&image[..n], budget.value, &mut sets[..r], &mut work);
-}
-
-fn verdict() {
-    let mut image = files::image_buffer();
-    let mut sets = input::list_buffer();
-    let mut work = input::work_buffer();
-    let taken = files::take_file(FIRST, &mut image);
-    if !taken.ok {
-        return;
-    }
-    let hypothesis = numbers::take_number(SECOND);
-    if !hypothesis.ok {
-        return;
-    }
-    let budget = numbers::take_number(THIRD);
-    if !budget.ok {
-        return;
-    }
-    let room = numbers::take_room(FOURTH, input::ENTRIES);
-    if !room.ok {
-        return;
-    }
-    let n = taken.value;
-    let r = room.value;
-    answers::verdict(
-        &image[..n],
-        hypothesis.value,
-        budget.value,
-        &mut sets[..r],
-        &mut work,
-    );
-}
-
-fn join() {
-    let mut left = input::list_buffer();
-    let mut right = input::list_buffer();
-    let mut out = input::list_buffer();
-    let room = numbers::take_room(FIRST, input::ENTRIES);
-    if !room.ok {
-        return;
-    }
-    let n = input::take_list(&mut left);
-    let m = input::take_list(&mut right);
-    if !(n.ok && m.ok) {
-        output::line(b"unlisted");
-        return;
-    }
-    let a = n.value;
-    let b = m.value;
-    let c = room.value;
-    answers::join(&left[..a], &right[..b], &mut out[..c]);
-}
 
 fn main() {
     if asked(b"check") {
-        check();
+        jobs::check();
     } else if asked(b"judge") {
-        judge();
+        jobs::judge();
     } else if asked(b"list") {
-        list();
+        jobs::list();
     } else if asked(b"verdict") {
-        verdict();
+        jobs::verdict();
     } else if asked(b"join") {
-        join();
+        jobs::join();
     } else if asked(b"image") {
         texts::image();
     } else if asked(b"names") {

@@ -1,16 +1,14 @@
--- `desk::judge` is safe. Assumes nothing.
+-- `jobs::check` is safe. Assumes nothing.
 use native.Mathlib.Omega.{arith}
 use lib.ListN.{length-take}
 use borrow.Author.Needs.{needs}
-use Rattle.desk.proofs.judge.Statement.{statement}
-use Rattle.desk.proofs.judge.Tie as tie
+use Rattle.jobs.proofs.check.Statement.{statement}
+use Rattle.jobs.proofs.check.Tie as tie
 
-pub judge-spec : {M : Type 1} → statement M
-judge-spec =
+pub check-spec : {M : Type 1} → statement M
+check-spec =
     tie.close
     (tie.spec
-    (λ c κs. search needs)
-    (λ c. search needs)
     (λ c κs. search needs)
     (λ c. search needs)
     (λ c κs. search needs)

@@ -1,16 +1,18 @@
--- `desk::list` is safe. Assumes nothing.
+-- `jobs::verdict` is safe. Assumes nothing.
 use native.Mathlib.Omega.{arith}
 use lib.ListN.{length-take}
 use borrow.Author.Needs.{needs}
-use Rattle.desk.proofs.list.Statement.{statement}
-use Rattle.desk.proofs.list.Tie as tie
+use Rattle.jobs.proofs.verdict.Statement.{statement}
+use Rattle.jobs.proofs.verdict.Tie as tie
 
-pub list-spec : {M : Type 1} → statement M
-list-spec =
+pub verdict-spec : {M : Type 1} → statement M
+verdict-spec =
     tie.close
     (tie.spec
     (λ c κs. search needs)
     (λ c κs. search needs)
+    (λ c κs. search needs)
+    (λ c. search needs)
     (λ c κs. search needs)
     (λ c. search needs)
     (λ c κs. search needs)

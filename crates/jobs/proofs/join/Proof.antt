@@ -1,9 +1,9 @@
--- `desk::join` is safe. Assumes nothing.
+-- `jobs::join` is safe. Assumes nothing.
 use native.Mathlib.Omega.{arith}
 use lib.ListN.{length-take}
 use borrow.Author.Needs.{needs}
-use Rattle.desk.proofs.join.Statement.{statement}
-use Rattle.desk.proofs.join.Tie as tie
+use Rattle.jobs.proofs.join.Statement.{statement}
+use Rattle.jobs.proofs.join.Tie as tie
 
 pub join-spec : {M : Type 1} → statement M
 join-spec =

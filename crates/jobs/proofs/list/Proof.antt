@@ -1,18 +1,16 @@
--- `desk::verdict` is safe. Assumes nothing.
+-- `jobs::list` is safe. Assumes nothing.
 use native.Mathlib.Omega.{arith}
 use lib.ListN.{length-take}
 use borrow.Author.Needs.{needs}
-use Rattle.desk.proofs.verdict.Statement.{statement}
-use Rattle.desk.proofs.verdict.Tie as tie
+use Rattle.jobs.proofs.list.Statement.{statement}
+use Rattle.jobs.proofs.list.Tie as tie
 
-pub verdict-spec : {M : Type 1} → statement M
-verdict-spec =
+pub list-spec : {M : Type 1} → statement M
+list-spec =
     tie.close
     (tie.spec
     (λ c κs. search needs)
     (λ c κs. search needs)
-    (λ c κs. search needs)
-    (λ c. search needs)
     (λ c κs. search needs)
     (λ c. search needs)
     (λ c κs. search needs)
