@@ -16,115 +16,20 @@
 //                                                               written N bytes HEX rest untouched | rest other;
 //                                                               refused R room untouched | room other (crate rooms)
 //  12 names   as for 6                                          as for 6
+//
+// What an operation does is in crate operations for 1 to 5, and in crate rooms for 6 and 12.
 
 use cases::input;
 use cases::output;
 
-fn read_case() -> bool {
-    let mut image = input::image_buffer();
-    let taken = input::take_image(&mut image);
-    if !taken.ok {
-        return false;
-    }
-    let n = taken.value;
-    answers::read(&image[..n]);
-    true
-}
-
-fn judge_case() -> bool {
-    let mut image = input::image_buffer();
-    let taken = input::take_image(&mut image);
-    let set = input::take_u64();
-    if !taken.ok {
-        return false;
-    }
-    if !set.ok {
-        return false;
-    }
-    let n = taken.value;
-    answers::judge(&image[..n], set.value);
-    true
-}
-
-fn list_case() -> bool {
-    let mut image = input::image_buffer();
-    let mut sets = input::list_buffer();
-    let mut work = input::work_buffer();
-    let taken = input::take_image(&mut image);
-    let means = input::take_means();
-    if !taken.ok {
-        return false;
-    }
-    if !means.ok {
-        return false;
-    }
-    let n = taken.value;
-    let r = means.room;
-    let w = means.space;
-    answers::list(&image[..n], means.budget, &mut sets[..r], &mut work[..w]);
-    true
-}
-
-fn verdict_case() -> bool {
-    let mut image = input::image_buffer();
-    let mut sets = input::list_buffer();
-    let mut work = input::work_buffer();
-    let taken = input::take_image(&mut image);
-    let hypothesis = input::take_number();
-    let means = input::take_means();
-    if !taken.ok {
-        return false;
-    }
-    if !hypothesis.ok {
-        return false;
-    }
-    if !means.ok {
-        return false;
-    }
-    let n = taken.value;
-    let r = means.room;
-    let w = means.space;
-    answers::verdict(
-        &image[..n],
-        hypothesis.value,
-        means.budget,
-        &mut sets[..r],
-        &mut work[..w],
-    );
-    true
-}
-
-fn join_case() -> bool {
-    let mut left = input::list_buffer();
-    let mut right = input::list_buffer();
-    let mut out = input::list_buffer();
-    let n = input::take_list(&mut left);
-    let m = input::take_list(&mut right);
-    let room = input::take_room(input::ENTRIES);
-    if !n.ok {
-        return false;
-    }
-    if !m.ok {
-        return false;
-    }
-    if !room.ok {
-        return false;
-    }
-    let a = n.value;
-    let b = m.value;
-    let c = room.value;
-    answers::join(&left[..a], &right[..b], &mut out[..c]);
-    true
-}
-
 // The case of this operation, and whether it was well formed.
 fn answered(operation: u64) -> bool {
     match operation {
-        1 => read_case(),
-        2 => judge_case(),
-        3 => list_case(),
-        4 => verdict_case(),
-        5 => join_case(),
+        1 => operations::read_case(),
+        2 => operations::judge_case(),
+        3 => operations::list_case(),
+        4 => operations::verdict_case(),
+        5 => operations::join_case(),
         6 => rooms::text_case(),
         12 => rooms::names_case(),
         _ => false,

@@ -1,9 +1,9 @@
--- `replay::list_case` is safe. Assumes nothing.
+-- `operations::list_case` is safe. Assumes nothing.
 use native.Mathlib.Omega.{arith}
 use lib.ListN.{length-take}
 use borrow.Author.Needs.{needs}
-use Rattle.replay.proofs.list_case.Statement.{statement}
-use Rattle.replay.proofs.list_case.Tie as tie
+use Rattle.operations.proofs.list_case.Statement.{statement}
+use Rattle.operations.proofs.list_case.Tie as tie
 
 pub list-case-spec : {M : Type 1} → statement M
 list-case-spec =

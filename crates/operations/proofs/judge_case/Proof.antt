@@ -1,9 +1,9 @@
--- `replay::judge_case` is safe. Assumes nothing.
+-- `operations::judge_case` is safe. Assumes nothing.
 use native.Mathlib.Omega.{arith}
 use lib.ListN.{length-take}
 use borrow.Author.Needs.{needs}
-use Rattle.replay.proofs.judge_case.Statement.{statement}
-use Rattle.replay.proofs.judge_case.Tie as tie
+use Rattle.operations.proofs.judge_case.Statement.{statement}
+use Rattle.operations.proofs.judge_case.Tie as tie
 
 slice-aggregate-judge : tie.Need-slice-aggregate-judge
 slice-aggregate-judge c = simp length-take (omega arith)

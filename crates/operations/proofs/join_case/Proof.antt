@@ -1,9 +1,9 @@
--- `replay::join_case` is safe. Assumes nothing.
+-- `operations::join_case` is safe. Assumes nothing.
 use native.Mathlib.Omega.{arith}
 use lib.ListN.{length-take}
 use borrow.Author.Needs.{needs}
-use Rattle.replay.proofs.join_case.Statement.{statement}
-use Rattle.replay.proofs.join_case.Tie as tie
+use Rattle.operations.proofs.join_case.Statement.{statement}
+use Rattle.operations.proofs.join_case.Tie as tie
 
 pub join-case-spec : {M : Type 1} → statement M
 join-case-spec =

@@ -1,9 +1,9 @@
--- `replay::verdict_case` is safe. Assumes nothing.
+-- `operations::verdict_case` is safe. Assumes nothing.
 use native.Mathlib.Omega.{arith}
 use lib.ListN.{length-take}
 use borrow.Author.Needs.{needs}
-use Rattle.replay.proofs.verdict_case.Statement.{statement}
-use Rattle.replay.proofs.verdict_case.Tie as tie
+use Rattle.operations.proofs.verdict_case.Statement.{statement}
+use Rattle.operations.proofs.verdict_case.Tie as tie
 
 pub verdict-case-spec : {M : Type 1} → statement M
 verdict-case-spec =

@@ -1,9 +1,9 @@
--- `replay::read_case` is safe. Assumes nothing.
+-- `operations::read_case` is safe. Assumes nothing.
 use native.Mathlib.Omega.{arith}
 use lib.ListN.{length-take}
 use borrow.Author.Needs.{needs}
-use Rattle.replay.proofs.read_case.Statement.{statement}
-use Rattle.replay.proofs.read_case.Tie as tie
+use Rattle.operations.proofs.read_case.Statement.{statement}
+use Rattle.operations.proofs.read_case.Tie as tie
 
 slice-aggregate-read : tie.Need-slice-aggregate-read
 slice-aggregate-read c = simp length-take (omega arith)
