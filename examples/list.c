@@ -35,6 +35,10 @@ int main(int count, char **words)
     fclose(file);
 
     code = wizogbare_list(image, length, BUDGET, sets, ROOM, work, WIZOGBARE_WORK_NUMBERS);
+    if (wizogbare_list_kind_of(code) == WIZOGBARE_LIST_BROKEN) {
+        printf("refused %u nodes 0 at %u\n", (unsigned)wizogbare_list_refusal(code), (unsigned)wizogbare_list_byte(code));
+        return 1;
+    }
     if (wizogbare_list_kind_of(code) == WIZOGBARE_LIST_REFUSED) {
         printf("refused %u nodes %u\n", (unsigned)wizogbare_list_refusal(code), (unsigned)wizogbare_list_nodes(code));
         return 1;

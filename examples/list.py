@@ -12,6 +12,7 @@ WORK_NUMBERS = 16384
 NODE_BITS = 32
 KIND_BITS = 56
 LISTED = 0
+BROKEN = 2
 
 BUDGET = 100_000
 ROOM = 256
@@ -30,14 +31,14 @@ def lister(library):
 
 
 def listing(call, image):
-    """The kind of the answer, its count or refusal's number, the nodes, and the sets."""
+    """The kind of the answer, its count or refusal's number, the nodes or of a broken book the place, and the sets."""
     sets = (ctypes.c_uint64 * ROOM)()
     work = (ctypes.c_uint32 * WORK_NUMBERS)()
     code = call(image, len(image), BUDGET, sets, len(sets), work, len(work))
     kind = code >> KIND_BITS
     number = code >> NODE_BITS & (1 << KIND_BITS - NODE_BITS) - 1
-    nodes = code & (1 << NODE_BITS) - 1
-    return kind, number, nodes, list(sets)
+    behind = code & (1 << NODE_BITS) - 1
+    return kind, number, behind, list(sets)
 
 
 def members(a_set):
@@ -48,11 +49,14 @@ def main(library, path):
     # one byte more than an image may have, so that a longer one is refused
     with open(path, "rb") as file:
         image = file.read(LONGEST_IMAGE + 1)
-    kind, number, nodes, sets = listing(lister(library), image)
-    if kind != LISTED:
-        print(f"refused {number} nodes {nodes}")
+    kind, number, behind, sets = listing(lister(library), image)
+    if kind == BROKEN:
+        print(f"refused {number} nodes 0 at {behind}")
         return 1
-    print(f"sets {number} nodes {nodes}")
+    if kind != LISTED:
+        print(f"refused {number} nodes {behind}")
+        return 1
+    print(f"sets {number} nodes {behind}")
     for place, a_set in enumerate(sets[:number], 1):
         print(f"{place}:", *members(a_set))
     return 0

@@ -28,6 +28,7 @@ extern "C" {
 enum Listing {
     Listed { count: usize, nodes: u32 },
     Refused { number: u32, nodes: u32 },
+    Broken { number: u32, place: u32 },
 }
 
 /// What the lister answers; the sets are left in `sets`.
@@ -37,10 +38,11 @@ fn list(image: &[u8], budget: u32, sets: &mut [u64], work: &mut [u32]) -> Listin
         wizogbare_list(image.as_ptr(), image.len(), budget, sets.as_mut_ptr(), sets.len(), work.as_mut_ptr(), work.len())
     };
     let number = (code >> NODE_BITS) as u32 & ((1 << (KIND_BITS - NODE_BITS)) - 1);
-    let nodes = code as u32;
+    let behind = code as u32;
     match code >> KIND_BITS {
-        0 => Listing::Listed { count: number as usize, nodes },
-        _ => Listing::Refused { number, nodes },
+        0 => Listing::Listed { count: number as usize, nodes: behind },
+        1 => Listing::Refused { number, nodes: behind },
+        _ => Listing::Broken { number, place: behind },
     }
 }
 
@@ -74,6 +76,10 @@ fn main() -> ExitCode {
     let mut sets = [0; ROOM];
     let mut work = vec![0; WORK_NUMBERS];
     match list(&image, BUDGET, &mut sets, &mut work) {
+        Listing::Broken { number, place } => {
+            println!("refused {number} nodes 0 at {place}");
+            ExitCode::FAILURE
+        }
         Listing::Refused { number, nodes } => {
             println!("refused {number} nodes {nodes}");
             ExitCode::FAILURE

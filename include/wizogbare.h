@@ -10,22 +10,28 @@
  *
  *     call      answer                                     code
  *     read      accepted                                   0
- *               refused with number n                      n
+ *               refused with number n at place p           2^32 * n + p
  *     judge     explains                                   0
  *               goal literal at place p is false           2^56 + p
  *               constraint at place p does not hold        2 * 2^56 + p
  *               refused with number n                      3 * 2^56 + n
+ *               image refused, number n at place p         4 * 2^56 + 2^32 * n + p
  *     list      listed k sets, after n nodes               2^32 * k + n
  *               refused with number m, after n nodes       2^56 + 2^32 * m + n
+ *               image refused, number n at place p         2 * 2^56 + 2^32 * n + p
  *     verdict   unexplained, after n nodes                 n
  *               needed, after n nodes                      2^56 + n
  *               possible, after n nodes                    2 * 2^56 + n
  *               ruled out, after n nodes                   3 * 2^56 + n
  *               refused with number m, after n nodes       4 * 2^56 + 2^32 * m + n
+ *               image refused, number n at place p         5 * 2^56 + 2^32 * n + p
  *     join      joined, k sets                             k
  *               refused with number n                      2^32 * n
  *     text,     written, n bytes                           n
  *     names     refused with number n                      2^32 * n
+ *
+ * A refusal of the image itself, 1 to 9, has a place: the number of a byte of the image, from 0, at most WIZOGBARE_LONGEST_IMAGE.
+ * It is the first byte of the field at fault (docs/REFUSALS.md), and every field before it is sound.
  *
  * Aliasing: What a call writes, `sets`, `work`, `out`, and the `image` or `room` of a text, must overlap nothing else that
  * the same call is lent. What it only reads may overlap: `left` and `right` may be one list. So a list is not joined into
@@ -108,15 +114,15 @@ enum wizogbare_refusal {
 
 /* ---- The calls ---- */
 
-/* Tests whether an image is a book: accepted, or refused with 1 to 9. It writes nothing. */
-uint32_t wizogbare_read(const uint8_t *image, size_t image_length);
+/* Tests whether an image is a book: accepted, or refused with 1 to 9 and the place. It writes nothing. */
+uint64_t wizogbare_read(const uint8_t *image, size_t image_length);
 
 /* Tests whether a set explains the book: it does, or the place of the first false goal literal, or failing that of the first
- * constraint that does not hold, from 0; or refused with 1 to 9 or 23. It writes nothing. */
+ * constraint that does not hold, from 0; or refused with 1 to 9 and the place, or with 23. It writes nothing. */
 uint64_t wizogbare_judge(const uint8_t *image, size_t image_length, uint64_t set);
 
-/* Lists the smallest explaining sets, fewest members first: their number and the nodes visited; or refused with 1 to 9, 20, 21,
- * 22, 30 or 31. Listed, `sets` has the sets in front and 0 in every later entry; refused with 30 or 31, it is all 0. After each
+/* Lists the smallest explaining sets, fewest members first: their number and the nodes visited; or refused with 1 to 9 and the place, or with 20,
+ * 21, 22, 30 or 31. Listed, `sets` has the sets in front and 0 in every later entry; refused with 30 or 31, it is all 0. After each
  * of these three the first WIZOGBARE_WORK_NUMBERS of `work` are 0 and later ones unchanged. Every other refusal leaves both
  * untouched, with 0 nodes. Neither need be cleared before. */
 uint64_t wizogbare_list(const uint8_t *image, size_t image_length, uint32_t budget, uint64_t *sets, size_t sets_length,
@@ -164,12 +170,15 @@ static inline uint32_t wizogbare_lower_bits(uint64_t code) { return (uint32_t)(c
 
 enum wizogbare_read_kind { WIZOGBARE_ACCEPTED, WIZOGBARE_READ_REFUSED };
 
-static inline enum wizogbare_read_kind wizogbare_read_kind_of(uint32_t code)
+static inline enum wizogbare_read_kind wizogbare_read_kind_of(uint64_t code)
 {
     return code == 0 ? WIZOGBARE_ACCEPTED : WIZOGBARE_READ_REFUSED;
 }
 
-static inline uint32_t wizogbare_read_refusal(uint32_t code) { return code; }
+static inline uint32_t wizogbare_read_refusal(uint64_t code) { return wizogbare_upper_bits(code); }
+
+/* the byte of the image where it is at fault */
+static inline uint32_t wizogbare_read_byte(uint64_t code) { return wizogbare_lower_bits(code); }
 
 /* judge */
 
@@ -177,7 +186,8 @@ enum wizogbare_judge_kind {
     WIZOGBARE_EXPLAINS,
     WIZOGBARE_FALSE_GOAL,
     WIZOGBARE_BROKEN_CONSTRAINT,
-    WIZOGBARE_JUDGE_REFUSED
+    WIZOGBARE_JUDGE_REFUSED,
+    WIZOGBARE_JUDGE_BROKEN /* the image itself is refused */
 };
 
 static inline enum wizogbare_judge_kind wizogbare_judge_kind_of(uint64_t code)
@@ -188,17 +198,23 @@ static inline enum wizogbare_judge_kind wizogbare_judge_kind_of(uint64_t code)
 /* of WIZOGBARE_FALSE_GOAL and WIZOGBARE_BROKEN_CONSTRAINT */
 static inline uint32_t wizogbare_judge_place(uint64_t code)
 {
-    return wizogbare_judge_kind_of(code) == WIZOGBARE_JUDGE_REFUSED ? 0 : wizogbare_lower_bits(code);
+    return wizogbare_judge_kind_of(code) >= WIZOGBARE_JUDGE_REFUSED ? 0 : wizogbare_lower_bits(code);
 }
 
 static inline uint32_t wizogbare_judge_refusal(uint64_t code)
 {
-    return wizogbare_judge_kind_of(code) == WIZOGBARE_JUDGE_REFUSED ? wizogbare_lower_bits(code) : 0;
+    return wizogbare_judge_kind_of(code) == WIZOGBARE_JUDGE_REFUSED ? wizogbare_lower_bits(code) : wizogbare_upper_bits(code);
+}
+
+/* of WIZOGBARE_JUDGE_BROKEN: the byte of the image where it is at fault */
+static inline uint32_t wizogbare_judge_byte(uint64_t code)
+{
+    return wizogbare_judge_kind_of(code) == WIZOGBARE_JUDGE_BROKEN ? wizogbare_lower_bits(code) : 0;
 }
 
 /* list */
 
-enum wizogbare_list_kind { WIZOGBARE_LISTED, WIZOGBARE_LIST_REFUSED };
+enum wizogbare_list_kind { WIZOGBARE_LISTED, WIZOGBARE_LIST_REFUSED, WIZOGBARE_LIST_BROKEN /* the image itself is refused */ };
 
 static inline enum wizogbare_list_kind wizogbare_list_kind_of(uint64_t code)
 {
@@ -212,10 +228,19 @@ static inline uint32_t wizogbare_list_count(uint64_t code)
 
 static inline uint32_t wizogbare_list_refusal(uint64_t code)
 {
-    return wizogbare_list_kind_of(code) == WIZOGBARE_LIST_REFUSED ? wizogbare_upper_bits(code) : 0;
+    return wizogbare_list_kind_of(code) == WIZOGBARE_LISTED ? 0 : wizogbare_upper_bits(code);
 }
 
-static inline uint32_t wizogbare_list_nodes(uint64_t code) { return wizogbare_lower_bits(code); }
+static inline uint32_t wizogbare_list_nodes(uint64_t code)
+{
+    return wizogbare_list_kind_of(code) == WIZOGBARE_LIST_BROKEN ? 0 : wizogbare_lower_bits(code);
+}
+
+/* of WIZOGBARE_LIST_BROKEN: the byte of the image where it is at fault */
+static inline uint32_t wizogbare_list_byte(uint64_t code)
+{
+    return wizogbare_list_kind_of(code) == WIZOGBARE_LIST_BROKEN ? wizogbare_lower_bits(code) : 0;
+}
 
 /* verdict */
 
@@ -224,7 +249,8 @@ enum wizogbare_verdict_kind {
     WIZOGBARE_NEEDED,
     WIZOGBARE_POSSIBLE,
     WIZOGBARE_RULED_OUT,
-    WIZOGBARE_VERDICT_REFUSED
+    WIZOGBARE_VERDICT_REFUSED,
+    WIZOGBARE_VERDICT_BROKEN /* the image itself is refused */
 };
 
 static inline enum wizogbare_verdict_kind wizogbare_verdict_kind_of(uint64_t code)
@@ -232,10 +258,19 @@ static inline enum wizogbare_verdict_kind wizogbare_verdict_kind_of(uint64_t cod
     return (enum wizogbare_verdict_kind)wizogbare_kind_bits(code);
 }
 
-/* 0 for every kind but WIZOGBARE_VERDICT_REFUSED: nothing else stands there */
+/* 0 for every kind but the last two: nothing else stands there */
 static inline uint32_t wizogbare_verdict_refusal(uint64_t code) { return wizogbare_upper_bits(code); }
 
-static inline uint32_t wizogbare_verdict_nodes(uint64_t code) { return wizogbare_lower_bits(code); }
+static inline uint32_t wizogbare_verdict_nodes(uint64_t code)
+{
+    return wizogbare_verdict_kind_of(code) == WIZOGBARE_VERDICT_BROKEN ? 0 : wizogbare_lower_bits(code);
+}
+
+/* of WIZOGBARE_VERDICT_BROKEN: the byte of the image where it is at fault */
+static inline uint32_t wizogbare_verdict_byte(uint64_t code)
+{
+    return wizogbare_verdict_kind_of(code) == WIZOGBARE_VERDICT_BROKEN ? wizogbare_lower_bits(code) : 0;
+}
 
 /* join */
 

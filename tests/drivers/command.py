@@ -241,9 +241,9 @@ def try_refused_texts(folder):
     rules = folder / "rules.txt"
     refuses("a text, budget used up", run("list", rules, "--budget", "14"), "refused 30 nodes 14\n", "budget was used up")
     refuses("a text, room", run("list", rules, "--room", "1025"), "refused 20 nodes 0\n", "(--room, at most 1,024)")
-    refuses("an empty file is an image", run("check", "-", given=b""), "refused 1\n", "shorter than 5 bytes")
+    refuses("an empty file is an image", run("check", "-", given=b""), "refused 1 at 0\n", "shorter than 5 bytes")
     for first in (b"\x00", b"\x0b", b"\x1f", b"\x7f", b"\x80", b"\xef"):
-        refuses(f"an image that begins with {first}", run("check", "-", given=first + RULES), "refused 2\n", "version")
+        refuses(f"an image that begins with {first}", run("check", "-", given=first + RULES), "refused 2 at 0\n", "version")
 
 
 # ---- images of texts
@@ -327,10 +327,12 @@ def try_join_of_names(folder):
 
 def try_refusals():
     for number, damaged in books.REFUSED:
+        place = books.PLACES[number]
+        told = f"byte {place}, counted from 0"
         for words in (["check", "-"], ["judge", "-", "0"]):
-            refuses(f"{words[0]}, {number}", run(*words, given=damaged), f"refused {number}\n", "")
+            refuses(f"{words[0]}, {number}", run(*words, given=damaged), f"refused {number} at {place}\n", told)
         for words in (["list", "-"], ["verdict", "-", "0"]):
-            refuses(f"{words[0]}, {number}", run(*words, given=damaged), f"refused {number} nodes 0\n", "")
+            refuses(f"{words[0]}, {number}", run(*words, given=damaged), f"refused {number} nodes 0 at {place}\n", told)
     refuses("room", run("list", EXAMPLE, "--room", "1025"), "refused 20 nodes 0\n", "(--room, at most 1,024)")
     refuses("a very large room", run("list", EXAMPLE, "--room", "4294967295"), "refused 20 nodes 0\n", "(--room, at most 1,024)")
     refuses("budget", run("list", EXAMPLE, "--budget", "1000001"), "refused 22 nodes 0\n", "above 1,000,000")

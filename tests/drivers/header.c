@@ -65,7 +65,7 @@ static int untouched(size_t from)
 static void try_null(void)
 {
     uint64_t empty = 0, code;
-    expect(wizogbare_read(NULL, 0) == WIZOGBARE_IMAGE_SHORT, "read of no image");
+    expect(wizogbare_read_refusal(wizogbare_read(NULL, 0)) == WIZOGBARE_IMAGE_SHORT, "read of no image");
     code = wizogbare_judge(NULL, 0, 0);
     expect(wizogbare_judge_refusal(code) == WIZOGBARE_IMAGE_SHORT, "judge of no image");
     code = wizogbare_list(NULL, 0, BUDGET, NULL, 0, NULL, 0);
@@ -160,6 +160,27 @@ static void try_answers(void)
     expect(wizogbare_verdict_refusal(code) == WIZOGBARE_ABDUCIBLE_UNKNOWN && wizogbare_verdict_nodes(code) == 0, "its number");
 }
 
+/* An image whose first atom is too many: every call tells the refusal, and byte 5. */
+static void try_broken(void)
+{
+    static const uint8_t broken[] = {1, 0, 0, 0, 10, 1, 1, 0, 0, 0, 0, 0, 0, 0, 0};
+    enum { ROOM = WIZOGBARE_LONGEST_LIST, A = 5 };
+    uint64_t code = wizogbare_read(broken, sizeof broken);
+    expect(wizogbare_read_kind_of(code) == WIZOGBARE_READ_REFUSED, "a broken book");
+    expect(wizogbare_read_refusal(code) == WIZOGBARE_LIMIT_BROKEN && wizogbare_read_byte(code) == A, "its number and byte");
+    code = wizogbare_judge(broken, sizeof broken, 0);
+    expect(wizogbare_judge_kind_of(code) == WIZOGBARE_JUDGE_BROKEN && wizogbare_judge_place(code) == 0, "a broken book, judged");
+    expect(wizogbare_judge_refusal(code) == WIZOGBARE_LIMIT_BROKEN && wizogbare_judge_byte(code) == A, "its number and byte");
+    code = LIST(broken, BUDGET, sets, ROOM);
+    expect(wizogbare_list_kind_of(code) == WIZOGBARE_LIST_BROKEN && wizogbare_list_nodes(code) == 0, "a broken book, listed");
+    expect(wizogbare_list_refusal(code) == WIZOGBARE_LIMIT_BROKEN && wizogbare_list_byte(code) == A, "its number and byte");
+    expect(wizogbare_list_count(code) == 0, "no sets");
+    code = VERDICT(broken, 0, sets, ROOM);
+    expect(wizogbare_verdict_kind_of(code) == WIZOGBARE_VERDICT_BROKEN && wizogbare_verdict_nodes(code) == 0, "a broken book, and a verdict");
+    expect(wizogbare_verdict_refusal(code) == WIZOGBARE_LIMIT_BROKEN && wizogbare_verdict_byte(code) == A, "its number and byte");
+    expect(wizogbare_list_byte(LIST(either, BUDGET, sets, 1)) == 0, "a refusal without a byte");
+}
+
 static void try_texts(void)
 {
     enum { IMAGE = sizeof wanted };
@@ -193,6 +214,7 @@ int main(void)
     try_null();
     try_constants();
     try_answers();
+    try_broken();
     try_texts();
     if (!failed)
         printf("header: as stated\n");

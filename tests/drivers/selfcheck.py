@@ -11,15 +11,16 @@ import random
 import re
 
 from tests.stored import books
+from tests.drivers import placing
 from tests.generators import images, texts
 from tests.implementation import text
 from tests.stored import stored, stored_names, stored_text
 from tests.implementation.answers import (BadCase, line, line_join, line_judge, line_list, line_names, line_read, line_text, line_verdict, lines,
-                                          pack_names, pack_read, pack_text)
+                                          pack_judge, pack_list, pack_names, pack_read, pack_text, pack_verdict)
 from tests.generators.images import choice_book, image, loop_book, small_book, sound_book
 from tests.implementation.joiner import join
 from tests.implementation.judge import explains, judge
-from tests.implementation.reader import LONGEST_IMAGE, Book, Refused, dependency_order, encode, read, read_or_raise
+from tests.implementation.reader import LONGEST_IMAGE, Book, Clause, Refusal, dependency_order, encode, framed, read
 from tests.implementation.search import explore, listing, smallest_by_trying, verdict
 from tests.stored.stored_read import longest
 
@@ -62,12 +63,12 @@ def check_soundings():
 def check_examples():
     """The other examples of the specification."""
     p = bytes.fromhex
-    check(read(p("01000000100001000000000001000400000000" + "0000")) == 9, "p from p")
-    check(read(p("01000000100001000000000001000400000001" + "0000")) == 9, "p from not p")
+    check(read(p("01000000100001000000000001000400000000" + "0000")) == Refusal(9, 13), "p from p")
+    check(read(p("01000000100001000000000001000400000001" + "0000")) == Refusal(9, 13), "p from not p")
     check(isinstance(read(p("010000000a01000000000000000000")), Book), "A 256")
-    check(read(p("010000000a01010000000000000000")) == 5, "A 257")
-    check(read(b"") == 1, "no bytes")
-    check(read(p("0100000000")) == 4, "01 00000000")
+    check(read(p("010000000a01010000000000000000")) == Refusal(5, 5), "A 257")
+    check(read(b"") == Refusal(1, 0), "no bytes")
+    check(read(p("0100000000")) == Refusal(4, 5), "01 00000000")
     check(len(longest()) == LONGEST_IMAGE == 8751, "the longest image's length")
     check(isinstance(read(longest()), Book), "the longest image")
     check(judge(books.P10, 1) == ("constraint", 0), "P10's {a} breaks the first constraint")
@@ -76,7 +77,13 @@ def check_examples():
     check(join([0b011], [0b100], 2) == (("joined", 2), [0b100, 0b011]), "{2} before {0,1}")
     check(line_list(books.P1, 15, 3, 16384) == "listed 2 nodes 15 sets 1 2 0 work clean", "line of P1")
     check(line_list(books.P1, 15, 2, 1) == "refused 21 nodes 0 sets 7 7 work untouched", "line of 21")
-    check(line_read(b"\1") == "refused 1", "line of a reading")
+    check(line_read(b"\1") == "refused 1 at 1", "line of a reading")
+    check(line_judge(books.REFUSED[8][1], 2) == "refused 9 at 13", "line of a judgement of a loop")
+    check(line_judge(books.P1, 8) == "refused 23", "line of 23")
+    check(line_list(b"", 0, 1025, 0).startswith("refused 1 nodes 0 at 0 sets 7 7 "), "line of a listing of no bytes")
+    check(line_list(books.REFUSED[8][1], 9, 1, 0) == "refused 9 nodes 0 at 13 sets 7 work untouched", "line of a listing of a loop")
+    check(line_verdict(books.REFUSED[7][1], 9, 9, 0, 0) == "refused 8 nodes 0 at 19 sets work untouched", "line of a verdict refused for 8")
+    check(line_verdict(books.P1, 3, 9, 0, 16384) == "refused 23 nodes 0 sets work untouched", "line of a verdict refused for 23")
     check(line_judge(books.P1, 4) == "constraint 0", "line of a judgement")
     check(line_verdict(books.P1, 2, 15, 2, 20000) == "ruled out nodes 15 sets 1 2 work clean", "line of a verdict")
     check(line_join([], [], 0) == "joined 0 sets", "line of an empty joining")
@@ -122,14 +129,82 @@ def check_round_trips(count):
 
 
 def check_places(count):
-    """A refusal's place is in the image or at its end."""
+    """So many refused images: number and place as found field by field with names, and by paths; every fault there is is met."""
     rng = random.Random(13)
-    for _ in range(count):
+    met, refused = set(), 0
+    while refused < count:
         unsure = image(rng)
-        try:
-            read_or_raise(unsure)
-        except Refused as refusal:
-            check(0 <= refusal.place <= len(unsure), unsure.hex())
+        found = read(unsure)
+        fault = placing.first_fault(unsure)
+        if fault:
+            check(found == fault[:2], (unsure.hex(), found, fault))
+            met.add((fault[0], fault[2]))
+            if 4 <= found.number and len(unsure) <= 150 and refused % 2:
+                check(is_place(rng, unsure, found, fault[2]), (unsure.hex(), found, fault))
+        elif isinstance(found, Refusal):
+            check(found.number == 9 and 13 <= found.place < len(unsure), (unsure.hex(), found))
+        refused += isinstance(found, Refusal)
+        if refused % 4 == 0:
+            check_passed_on(rng, unsure, found)
+    check(met == placing.FAULTS, met ^ placing.FAULTS)
+
+
+def number_of(unsure):
+    """The number of this image's refusal; 0 if it has none."""
+    found = read(unsure)
+    return found.number if isinstance(found, Refusal) else 0
+
+
+def is_place(rng, unsure, found, name):
+    """Whether the place of a 4 to 8 is right, by the numbers of other images."""
+    number, place = found
+    if name == "left over":  # without these bytes it is a book, perhaps with a loop
+        return place < len(unsure) and number_of(framed(unsure[5:place])) in (0, 9)
+    if name.startswith("missing"):  # without half of it, it is missing still; with a 2 put there, and more behind it, it is not
+        put = framed(unsure[5:place] + b"\0\2" + bytes(8))
+        return len(unsure) - place in (0, 1) and read(framed(unsure[5:place])) == found != read(put)
+    return placing.settles(rng, unsure, number, place, number_of)
+
+
+def check_passed_on(rng, unsure, found):
+    """Judge, lister and verdict tell of a broken image what the reader does, whatever else they are given; of no other refusal a place."""
+    budget, room, work = rng.choice(((5, 2, 16384), (0, 0, 16384), (5, 2, 0), (1_000_001, 2, 16384), (5, 1025, 16384)))
+    judged = line(pack_judge(unsure, rng.choice((0, (1 << 64) - 1))))
+    searched = [line(pack_list(unsure, budget, room, work)), line(pack_verdict(unsure, rng.choice((0, 1 << 31)), budget, room, work))]
+    if isinstance(found, Refusal):
+        check(line(pack_read(unsure)) == judged == f"refused {found.number} at {found.place}", unsure.hex())
+        left = "".join(" 7" for _ in range(room))
+        told = f"refused {found.number} nodes 0 at {found.place} sets{left} work untouched"
+        check(searched == [told, told], unsure.hex())
+    else:
+        check(not any(" at " in each for each in (judged, *searched)), unsure.hex())
+
+
+def check_loop_places(count):
+    """The place of 9 against all paths: every book of one-literal clauses over three atoms, and random ones; on larger books by steps."""
+    rng = random.Random(18)
+    edges = list(itertools.product(range(3), repeat=2))
+    for taken in itertools.product((False, True), repeat=len(edges)):
+        clauses = [Clause(p, (2 * q + rng.randrange(2),)) for (p, q), has in zip(edges, taken) if has]
+        for _ in range(3):
+            rng.shuffle(clauses)
+            check_loop_place(Book(3, 0, (), tuple(clauses)), placing.comes_back)
+            facts = [Clause(rng.randrange(3)) for _ in range(rng.randrange(3))]
+            check_loop_place(images.with_clauses(rng, Book(3, 0, (0,) * rng.randrange(3), tuple(clauses)), facts), placing.comes_back)
+    for _ in range(count):
+        book = images.tangled_book(rng)
+        check_loop_place(book, placing.comes_back)
+        check_loop_place(images.off_loops_first(book), placing.comes_back)
+    for _ in range(count // 10):
+        book = rng.choice((loop_book, images.chain_book, sound_book))(rng)
+        check_loop_place(book, placing.comes_back_in_steps)
+        check_loop_place(images.off_loops_first(book), placing.comes_back_in_steps)
+
+
+def check_loop_place(book, on_loop):
+    place = placing.loop_place(book, on_loop)
+    found = read(encode(book))
+    check(found == (book if place is None else Refusal(9, place)), (book, place, found))
 
 
 def depends_on_itself(book):
@@ -391,6 +466,8 @@ def check_text_generators(count):
         typed = texts.some_text(rng)
         output = text.read(typed, 10000)
         check(well_formed(typed) == (output != 50), typed)
+        if isinstance(output, int):  # a text's refusal has no place
+            check(line_text(typed, 0) == line_names(typed, 0) == f"refused {output} room untouched", typed)
         met.add(output if isinstance(output, int) else 0)
     check(met == {0, 5, 7, 9, 50, 51}, met)
 
@@ -411,7 +488,8 @@ def main():
     check_examples()
     check_against_trying(600)
     check_round_trips(400)
-    check_places(400)
+    check_places(28_000)
+    check_loop_places(5000)
     check_loops(400)
     check_joiner(400)
     check_stored()

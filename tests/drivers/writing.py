@@ -123,7 +123,7 @@ def said_list(book, words):
     result = listing(book.image, option(words, "--budget", BUDGET), option(words, "--room", ROOM), WORK)
     word, number = result.answer
     if word == "refused":
-        return f"refused {number} nodes {result.nodes}\n"
+        return f"{result.told()}\n"
     sets = result.entries[:number]
     return f"sets {number} nodes {result.nodes}\n" + "".join(f"{i}: {book.set_line(each)}\n" for i, each in enumerate(sets, 1))
 
@@ -147,7 +147,7 @@ def said_judge(book, words):
 
 def said_verdict(book, words):
     result = verdict(book.image, book.number(words[0]), option(words, "--budget", BUDGET), option(words, "--room", ROOM), WORK)
-    return f"{' '.join(map(str, result.answer))} nodes {result.nodes}\n"
+    return f"{result.told()}\n"
 
 
 SAID = {"list": said_list, "check": said_check, "judge": said_judge, "verdict": said_verdict}

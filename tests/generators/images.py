@@ -9,7 +9,7 @@ from tests.implementation.answers import pack_join, pack_judge, pack_list, pack_
 from tests.implementation.joiner import smallest
 from tests.implementation.reader import (MOST_ABDUCIBLES, MOST_ATOMS, MOST_BODY_LITERALS, MOST_CLAUSES,
                     MOST_CONSTRAINT_LITERALS, MOST_CONSTRAINTS, MOST_GOAL_LITERALS,
-                    Book, Clause, Constraint, encode, fields, framed, read)
+                    Book, Clause, Constraint, depends_on, encode, fields, framed, read)
 from tests.implementation.search import WORK_NUMBERS, explore
 
 
@@ -152,7 +152,12 @@ def constraints_limit(rng, over):
 def constraint_literals_limit(rng, over):
     book = sound_book(rng, "small")
     count = rng.choice((1, 2, 20, MOST_CONSTRAINTS))
-    constraints = some_constraints(rng, book.atoms, count, MOST_CONSTRAINT_LITERALS + over)
+    if rng.random() < 0.4:  # the last constraint's conditions keep the limit or break it, with an alternative behind them sometimes
+        last = some_literals(rng, range(book.atoms), rng.randint(1, 3))
+        full = some_constraints(rng, book.atoms, min(count, MOST_CONSTRAINTS - 1), MOST_CONSTRAINT_LITERALS + over - len(last))
+        constraints = full + (Constraint(last, (last,) * rng.randrange(2)),)
+    else:
+        constraints = some_constraints(rng, book.atoms, count, MOST_CONSTRAINT_LITERALS + over)
     return Book(book.atoms, book.abducibles, book.goal, book.clauses, constraints)
 
 
@@ -192,6 +197,28 @@ def loop_book(rng):
     added += [Clause(p, body_with(rng, book, rng.choice(around))) for p in above]
     book = with_clauses(rng, book, added)
     return unreachable(book) if rng.random() < 0.3 else book
+
+
+def tangled_book(rng):
+    """Few atoms and clauses among them without any order: loops beside each other and through each other, heads above and below them,
+    facts of heads on loops, or no loop at all."""
+    abducibles = rng.choice((0, 0, 1, 3))
+    atoms = abducibles + rng.randint(1, 8)
+    count = rng.randint(1, 2 * (atoms - abducibles) + 2)
+    lengths = (0, 1, 1, 1, 1, 2, 2, 3)
+    clauses = tuple(
+        Clause(rng.randrange(abducibles, atoms), some_literals(rng, range(atoms), rng.choice(lengths))) for _ in range(count)
+    )
+    goal = some_literals(rng, range(atoms), rng.choice((0, 0, 1, 2, 16)))
+    constraints = tuple(small_constraint(rng, atoms) for _ in range(rng.choice((0, 0, 1, 2))))
+    return Book(atoms, abducibles, goal, clauses, constraints)
+
+
+def off_loops_first(book):
+    """The same book, its clauses with heads off every loop in front: the place of its 9 is behind them."""
+    below = depends_on(book)
+    clauses = tuple(sorted(book.clauses, key=lambda clause: below[clause.head] >> clause.head & 1))
+    return Book(book.atoms, book.abducibles, book.goal, clauses, book.constraints)
 
 
 def unreachable(book):
@@ -293,10 +320,11 @@ def packed_fields(values):
 # Damage to bytes.
 
 def truncated(rng, rest):
-    """Cut at a field's edge, within a field, or anywhere."""
+    """Cut at a field's edge, within a field, near the front, or anywhere."""
     if not rest:
         return rest
-    return rest[:rng.choice((rng.randrange(len(rest)), len(rest) - 1, len(rest) - 2, len(rest) // 2))]
+    near_front = rng.randrange(min(len(rest), 12))
+    return rest[:rng.choice((rng.randrange(len(rest)), len(rest) - 1, len(rest) - 2, len(rest) // 2, near_front))]
 
 
 def lengthened(rng, rest):
@@ -349,7 +377,8 @@ def limit_image(rng):
 
 
 def loop_image(rng):
-    return encode(pick(rng, ((4, loop_book), (1, chain_book)))(rng))
+    book = pick(rng, ((4, loop_book), (1, chain_book), (4, tangled_book)))(rng)
+    return encode(off_loops_first(book) if rng.random() < 0.3 else book)
 
 
 def damaged_image(rng):
@@ -365,7 +394,7 @@ def doubly_damaged_image(rng):
 
 def base_book(rng):
     """A book to be damaged: sound mostly, with a loop sometimes."""
-    return pick(rng, ((6, sound_book), (1, loop_book), (1, roomy_book)))(rng)
+    return pick(rng, ((6, sound_book), (1, loop_book), (1, tangled_book), (1, roomy_book)))(rng)
 
 
 def byte_damaged_image(rng):
@@ -468,7 +497,7 @@ def read_case(rng):
 
 
 def judge_case(rng):
-    if rng.random() < 0.08:
+    if rng.random() < 0.2:
         return pack_judge(image(rng), rng.choice((0, 1, rng.getrandbits(64))))
     book = searched_book(rng)
     return pack_judge(encode(book), judged_set(rng, book))
@@ -508,7 +537,7 @@ def faulty_means(rng, budget, room, work):
 
 def book_image(rng):
     """A book to search and its image; sometimes an image that may be refused."""
-    if rng.random() < 0.06:
+    if rng.random() < 0.2:
         unsure = image(rng)
         book = read(unsure)
         return (book if isinstance(book, Book) else Book(1, 0)), unsure

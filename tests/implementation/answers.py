@@ -72,8 +72,8 @@ def pack_names(typed, room):
 # The line of each operation.
 
 def line_read(image):
-    book = read(image)
-    return "accepted" if isinstance(book, Book) else f"refused {book}"
+    found = read(image)
+    return "accepted" if isinstance(found, Book) else f"refused {found}"
 
 
 def line_judge(image, assumed):
@@ -109,8 +109,8 @@ def writing_line(output):
 
 
 def result_line(result):
-    """The line of a search: answer, node number, list, work area."""
-    parts = (*result.answer, "nodes", result.nodes, "sets", *result.entries, "work", result.work)
+    """The line of a search: answer, node number, the place of a book's own fault, list, work area."""
+    parts = (result.told(), "sets", *result.entries, "work", result.work)
     return " ".join(str(part) for part in parts)
 
 

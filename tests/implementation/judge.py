@@ -3,16 +3,16 @@
 Written from the specification alone; shares no code with the engine.
 """
 
-from tests.implementation.reader import Book, dependency_order, read
+from tests.implementation.reader import Book, Refusal, dependency_order, read
 
 
 def judge(image, assumed):
-    """('explains',), ('goal', place), ('constraint', place) or ('refused', number)."""
+    """('explains',), ('goal', place), ('constraint', place) or ('refused', refusal)."""
     book = read(image)
     if not isinstance(book, Book):
         return ("refused", book)
     if assumed >> book.abducibles:
-        return ("refused", 23)
+        return ("refused", Refusal(23))
     return judge_book(book, assumed)
 
 

@@ -1,10 +1,11 @@
-"""The reader of rule books: from an image to a book, or a refusal 1 to 9.
+"""The reader of rule books: from an image to a book, or a refusal 1 to 9 with its place (paper 01, 4; paper 02, A2).
 
 Written from the specification alone; shares no code with the engine.
 A literal stays as the image has it: twice its atom, plus 1 if negated.
 """
 
 from dataclasses import dataclass
+from typing import NamedTuple
 
 VERSION = 1
 HEADER = 5  # the version byte and the length of the rest
@@ -19,13 +20,22 @@ MOST_CONSTRAINT_LITERALS = 1024
 LONGEST_IMAGE = 8751
 
 
+class Refusal(NamedTuple):
+    """A refusal: its number and, of a book's own fault (1 to 9), its place in bytes. Any other has none."""
+
+    number: int
+    place: int | None = None
+
+    def __str__(self):
+        return str(self.number) if self.place is None else f"{self.number} at {self.place}"
+
+
 class Refused(Exception):
-    """A refusal: its number, and the place of the byte where the fault was met."""
+    """Raised where a fault is met."""
 
     def __init__(self, number, place):
-        super().__init__(f"refused {number} at byte {place}")
-        self.number = number
-        self.place = place
+        super().__init__(f"refused {number} at {place}")
+        self.refusal = Refusal(number, place)
 
 
 @dataclass(frozen=True)
@@ -50,20 +60,15 @@ class Book:
 
 
 def read(image):
-    """The book of this image, or the number of its refusal."""
+    """The book of this image, or its refusal."""
     try:
-        return read_or_raise(image)
-    except Refused as refusal:
-        return refusal.number
-
-
-def read_or_raise(image):
-    """The book of this image; a fault raises Refused with number and place."""
-    check_header(image)
-    book = Walk(image).book()
-    if dependency_order(book) is None:
-        raise Refused(9, len(image))
-    return book
+        check_header(image)
+        walk = Walk(image)
+        book = walk.book()
+        check_loops(book, walk.records)
+        return book
+    except Refused as raised:
+        return raised.refusal
 
 
 def check_header(image):
@@ -86,6 +91,7 @@ class Walk:
         self.abducibles = 0
         self.body_total = 0
         self.constraint_total = 0
+        self.records = []  # where each clause's record length stands
 
     def book(self):
         """The whole image after its header, nothing left over."""
@@ -132,6 +138,7 @@ class Walk:
         return end
 
     def clause(self):
+        self.records.append(self.at)
         end = self.record_end()
         count = (end - self.at) // 2 - 1
         if self.body_total + count > MOST_BODY_LITERALS:
@@ -172,6 +179,29 @@ class Walk:
             raise Refused(5, self.at - 2)
         self.constraint_total += count
         return self.literals(count)
+
+
+def check_loops(book, records):
+    """9, at the record of the first clause whose head is on a loop; a head that only leads into one is passed."""
+    if dependency_order(book) is not None:
+        return
+    below = depends_on(book)
+    for clause, place in zip(book.clauses, records):
+        if below[clause.head] >> clause.head & 1:
+            raise Refused(9, place)
+
+
+def depends_on(book):
+    """For each atom all atoms that it depends on, as a number: atom q is 2^q."""
+    below = [0] * book.atoms
+    for clause in book.clauses:
+        for literal in clause.body:
+            below[clause.head] |= 1 << (literal >> 1)
+    for through in range(book.atoms):
+        for atom in range(book.atoms):
+            if below[atom] >> through & 1:
+                below[atom] |= below[through]
+    return below
 
 
 def dependency_order(book):

@@ -11,7 +11,7 @@ A break and a constraint are choices.
 from dataclasses import dataclass
 
 from tests.implementation.judge import explains
-from tests.implementation.reader import Book, read
+from tests.implementation.reader import Book, Refusal, read
 
 MOST_ENTRIES = 1024
 WORK_NUMBERS = 16384
@@ -21,12 +21,18 @@ LIST_BEFORE = 7  # what every list entry holds before a call
 
 @dataclass
 class Result:
-    """What a search answers and leaves: answer, node number, list, work area."""
+    """What a search answers and leaves: answer, node number, list, work area; and the place of a book's own fault."""
 
     answer: tuple
     nodes: int
     entries: list
     work: str
+    place: int | None = None
+
+    def told(self):
+        """The words of its answer: with the node number, and with the place if it has one."""
+        place = () if self.place is None else ("at", self.place)
+        return " ".join(map(str, (*self.answer, "nodes", self.nodes, *place)))
 
 
 @dataclass
@@ -41,19 +47,19 @@ class Search:
 
 def listing(image, budget, room, work_length):
     """The lister: ('listed', K) or ('refused', number), and what it leaves."""
-    book, number = admitted(image, budget, room, work_length)
-    if number:
-        return untouched(number, room)
+    book, refusal = admitted(image, budget, room, work_length)
+    if refusal:
+        return untouched(refusal, room)
     return searched(book, budget, room)
 
 
 def verdict(image, hypothesis, budget, room, work_length):
     """The verdict: a word as ('needed',), or ('refused', number)."""
-    book, number = admitted(image, budget, room, work_length)
-    if not number and hypothesis >= book.abducibles:
-        number = 23
-    if number:
-        return untouched(number, room)
+    book, refusal = admitted(image, budget, room, work_length)
+    if not refusal and hypothesis >= book.abducibles:
+        refusal = Refusal(23)
+    if refusal:
+        return untouched(refusal, room)
     result = searched(book, budget, room)
     word, count = result.answer
     if word == "listed":
@@ -72,22 +78,22 @@ def verdict_word(sets, hypothesis):
 
 
 def admitted(image, budget, room, work_length):
-    """(book, 0), or (None, number) for a refusal 1 to 22."""
+    """(book, None), or (None, refusal) for a refusal 1 to 22."""
     book = read(image)
     if not isinstance(book, Book):
         return None, book
     if room > MOST_ENTRIES:
-        return None, 20
+        return None, Refusal(20)
     if work_length < WORK_NUMBERS:
-        return None, 21
+        return None, Refusal(21)
     if budget > MOST_BUDGET:
-        return None, 22
-    return book, 0
+        return None, Refusal(22)
+    return book, None
 
 
-def untouched(number, room):
+def untouched(refusal, room):
     """A refusal before any search: nothing written, no node."""
-    return Result(("refused", number), 0, [LIST_BEFORE] * room, "untouched")
+    return Result(("refused", refusal.number), 0, [LIST_BEFORE] * room, "untouched", refusal.place)
 
 
 def searched(book, budget, room):

@@ -5,7 +5,7 @@ Written from the specification alone; shares no code with the engine.
     spike :- abd(fish).  spike :- naf(wake), tall.  abd(fish) ---> moving ; abd(shoal), tall.  ?- spike.
 
 First the words, then the grammar, then 51, then the book as the image will have it. The walk over the image that would be written (5, 7)
-and the test for loops (9) are those of the reader of images.
+and the test for loops (9) are those of the reader of images; their places are in no text and are not told (paper 02, A2.2).
 """
 
 import re
@@ -111,8 +111,8 @@ def written(text):
     image = reader.encode(book_of(document, order))
     found = reader.read(image)
     if not isinstance(found, reader.Book):
-        assert found in (5, 7, 9), found  # an image of a book is well formed, and its literals name its atoms
-        return found, found
+        assert found.number in (5, 7, 9), found  # an image of a book is well formed, and its literals name its atoms
+        return found.number, found.number
     return image, b"".join(atom.name + b"\n" for atom in order)
 
 

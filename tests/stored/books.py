@@ -34,6 +34,9 @@ REFUSED = [
     (9, rest("0001 0000 0000 0001 0004 0000 0000 0000")),
 ]
 
+# The place of each of these refusals.
+PLACES = {1: 3, 2: 0, 3: 1, 4: 15, 5: 5, 6: 11, 7: 15, 8: 19, 9: 13}
+
 # 250 layers of two mentions above an abducible.
 LAYERS = image("abducible a; goal p250; p0 <- a; " + "; ".join(f"p{i + 1} <- p{i} p{i}" for i in range(250)))
 

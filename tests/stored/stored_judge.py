@@ -2,10 +2,10 @@
 
 Written from the specification alone; shares no code with the engine.
 Every answer is written by hand: e explains, g a false goal literal's place,
-c a broken constraint's place, r a refusal.
+c a broken constraint's place, r a refusal, with @ before its place in the image.
 """
 
-from tests.stored import books
+from tests.stored import books, places
 from tests.implementation.answers import line_judge, pack_judge
 from tests.implementation.notation import image, rest
 
@@ -107,15 +107,17 @@ SINGLE = [
     ("a clause atom beyond the goal's", image("abducible a; goal a; z <- -a; z ->"), 1, "e"),
     ("a broken constraint beyond the goal's atoms", image("abducible a; goal -a; z <- -a; z ->"), 0, "c0"),
 ] + [
-    (f"refusal {number} passed on", packed, 0, f"r{number}") for number, packed in books.REFUSED
+    (f"refusal {number} passed on", packed, 0, f"r{number}@{books.PLACES[number]}") for number, packed in books.REFUSED
 ] + [
-    (f"refusal {number} before 23", packed, ALL, f"r{number}") for number, packed in books.REFUSED
+    (f"refusal {number} before 23", packed, ALL, f"r{number}@{books.PLACES[number]}") for number, packed in books.REFUSED
+] + [
+    (name, packed, (0, ALL)[turn % 2], f"r{number}@{place}") for turn, (name, packed, number, place) in enumerate(places.third(0))
 ]
 
 
 def in_words(short):
     """The line of an answer in short form."""
-    return (WORDS[short[0]] + " " + short[1:]).strip()
+    return (WORDS[short[0]] + " " + short[1:].replace("@", " at ")).strip()
 
 
 def members(number):

@@ -2,11 +2,11 @@
 
 Written from the specification alone; shares no code with the engine.
 An answer written by hand has the short form `listed 2 nodes 15: 1 2` or
-`refused 30 nodes 14`; the entries and the work area behind it follow from the
-rules. None stands where only the implementation was asked.
+`refused 30 nodes 14`, a book's own fault `refused 9 nodes 0 at 13`; the entries
+and the work area behind it follow from the rules. None stands where only the implementation was asked.
 """
 
-from tests.stored import books
+from tests.stored import books, places
 from tests.implementation.answers import line_list, pack_list
 from tests.implementation.notation import image
 from tests.implementation.search import LIST_BEFORE
@@ -153,7 +153,7 @@ SINGLE = [
     ("work and budget wrong", books.P1, 1_000_001, 4, 16383, "refused 21 nodes 0"),
     ("list and work wrong", books.P1, 100, 1025, 16383, "refused 20 nodes 0"),
     ("budget 0 and work wrong", books.P1, 0, 4, 16383, "refused 21 nodes 0"),
-    ("a loop and list, work and budget wrong", image("p <- p"), 1_000_001, 1025, 0, "refused 9 nodes 0"),
+    ("a loop and list, work and budget wrong", image("p <- p"), 1_000_001, 1025, 0, "refused 9 nodes 0 at 13"),
     ("2 pairs", books.pairs(2), 100, 5, WORK, "listed 4 nodes 13: 5 6 9 10"),
     ("3 pairs", books.pairs(3), 100, 8, WORK, "listed 8 nodes 29: 21 22 25 26 37 38 41 42"),
     ("3 pairs, one entry short", books.pairs(3), 100, 7, WORK, "refused 31 nodes 29"),
@@ -180,11 +180,14 @@ SINGLE = [
     ("797,161 nodes", books.facts([3] * 12), 1_000_000, 1, WORK, "listed 1 nodes 797161: 0"),
     ("131,071 nodes", books.facts([2] * 16), 200_000, 1, WORK, "listed 1 nodes 131071: 0"),
 ] + [
-    (f"refusal {number} passed on", packed, 100, 3, WORK, f"refused {number} nodes 0")
+    (f"refusal {number} passed on", packed, 100, 3, WORK, f"refused {number} nodes 0 at {books.PLACES[number]}")
     for number, packed in books.REFUSED
 ] + [
-    (f"refusal {number} before 20, 21 and 22", packed, 1_000_001, 1025, 3, f"refused {number} nodes 0")
+    (f"refusal {number} before 20, 21 and 22", packed, 1_000_001, 1025, 3, f"refused {number} nodes 0 at {books.PLACES[number]}")
     for number, packed in books.REFUSED
+] + [
+    (name, packed, *((100, 3, WORK), (1_000_001, 1, 3))[turn % 2], f"refused {number} nodes 0 at {place}")
+    for turn, (name, packed, number, place) in enumerate(places.third(1))
 ]
 
 

@@ -4,7 +4,7 @@ Written from the specification alone; shares no code with the engine.
 Answers are written by hand in the short form of the lister's table.
 """
 
-from tests.stored import books
+from tests.stored import books, places
 from tests.implementation.answers import line_verdict, pack_verdict
 from tests.implementation.notation import image
 from tests.stored.stored_list import full_line
@@ -129,11 +129,14 @@ SINGLE = [
      image("abducible a; goal " + " ".join(f"x{i}" for i in range(16))
            + "".join(f"; x{i} <-; x{i} <-" for i in range(16))), 0, 130_000, 1, WORK, "refused 30 nodes 130000"),
 ] + [
-    (f"refusal {number} passed on", packed, 0, 100, 3, WORK, f"refused {number} nodes 0")
+    (f"refusal {number} passed on", packed, 0, 100, 3, WORK, f"refused {number} nodes 0 at {books.PLACES[number]}")
     for number, packed in books.REFUSED
 ] + [
-    (f"refusal {number} before 20 to 23", packed, 1 << 31, 1_000_001, 1025, 3, f"refused {number} nodes 0")
+    (f"refusal {number} before 20 to 23", packed, 1 << 31, 1_000_001, 1025, 3, f"refused {number} nodes 0 at {books.PLACES[number]}")
     for number, packed in books.REFUSED
+] + [
+    (name, packed, *((0, 100, 3, WORK), (1 << 31, 1_000_001, 1, 3))[turn % 2], f"refused {number} nodes 0 at {place}")
+    for turn, (name, packed, number, place) in enumerate(places.third(2))
 ]
 
 

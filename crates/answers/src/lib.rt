@@ -9,7 +9,7 @@ use engine::Verdict;
 pub fn read(image: &[u8]) {
     match book::read(image) {
         Reading::Accepted => output::line(b"accepted"),
-        Reading::Refused(r) => output::numbered(b"refused ", r as u64),
+        Reading::Refused(r, place) => output::broken(r, place),
     }
 }
 
@@ -18,6 +18,7 @@ pub fn judge(image: &[u8], set: u64) {
         Judgement::Explains => output::line(b"explains"),
         Judgement::FalseGoal(p) => output::numbered(b"goal ", p as u64),
         Judgement::BrokenConstraint(p) => output::numbered(b"constraint ", p as u64),
+        Judgement::Broken(r, place) => output::broken(r, place),
         Judgement::Refused(r) => output::numbered(b"refused ", r as u64),
     }
 }
@@ -32,6 +33,7 @@ fn left(sets: &[u64], work: &[u32]) {
 pub fn list(image: &[u8], budget: u32, sets: &mut [u64], work: &mut [u32]) {
     match engine::list(image, budget, sets, work) {
         Listing::Listed(k, n) => output::searched(b"listed ", k, n),
+        Listing::Broken(r, place) => output::unsearched(r, place),
         Listing::Refused(r, n) => output::searched(b"refused ", r as u32, n),
     }
     left(sets, work);
@@ -43,6 +45,7 @@ pub fn verdict(image: &[u8], hypothesis: u32, budget: u32, sets: &mut [u64], wor
         Verdict::Needed(n) => output::count(b"needed nodes ", n as u64),
         Verdict::Possible(n) => output::count(b"possible nodes ", n as u64),
         Verdict::RuledOut(n) => output::count(b"ruled out nodes ", n as u64),
+        Verdict::Broken(r, place) => output::unsearched(r, place),
         Verdict::Refused(r, n) => output::searched(b"refused ", r as u32, n),
     }
     left(sets, work);

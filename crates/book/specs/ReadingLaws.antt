@@ -9,7 +9,7 @@ use Rattle.image.specs.paper.Book.{Book}
 use Rattle.image.specs.paper.Walk.{found, fault, Finding, fine}
 use Rattle.image.specs.paper.Faults.{limits}
 use Rattle.image.specs.paper.Loops.{loopFree}
-use Rattle.image.specs.paper.Decode.{whole, wrongFront, Decoded, accepted, refused, inOrder, decode}
+use Rattle.image.specs.paper.Decode.{whole, wrongFront, frontPlace, loopPlace, Decoded, accepted, refused, inOrder, decode}
 use Rattle.faults.specs.Taking.{finding, finding-wrong}
 use Rattle.book.specs.declared.Reading.{Reading}
 use Rattle.book.specs.declared.Reading.the-variants.{Accepted, Refused}
@@ -24,23 +24,30 @@ reads-unique s q r h k = h .answer ∙ sym (k .answer)
 
 -- ---- the ways to an answer
 
-pub refused-front : (s : List ℕ) (n : ℕ) → (n ≡ 0 → ⊥) → finding n ≡ wrongFront s → Reads s (Refused n)
+pub refused-front : (s : List ℕ) (n at : ℕ) → (n ≡ 0 → ⊥) → finding n ≡ wrongFront s → at ≡ frontPlace s n → Reads s (Refused n at)
 unfolding decode inOrder
-refused-front s n h e =
-    record { answer = sym (ap (λ (f : Finding). readingOf (inOrder f (whole s limits atomsAt))) (sym e ∙ finding-wrong n h)) }
+refused-front s n at h e p =
+    record {
+      answer =
+          ap (Refused n) p
+          ∙ sym (ap (λ (f : Finding). readingOf (inOrder s f (whole s limits atomsAt))) (sym e ∙ finding-wrong n h));
+    }
 
 module _ (s : List ℕ) (e : wrongFront s ≡ fine) where
-  pub refused-walk : (n p : ℕ) → whole s limits atomsAt ≡ fault n p → Reads s (Refused n)
+  pub refused-walk : (n at : ℕ) → whole s limits atomsAt ≡ fault n at → Reads s (Refused n at)
   unfolding decode inOrder
-  refused-walk n p f = record { answer = sym (ap readingOf (ap₂ inOrder e f)) }
+  refused-walk n at f = record { answer = sym (ap readingOf (ap₂ (inOrder s) e f)) }
 
-  pub settled : (b : Book) (next : ℕ) (t : Bool) → whole s limits atomsAt ≡ found b next → t ≡ loopFree b → Reads s (choose t Accepted (Refused 9))
-  unfolding decode inOrder
-  settled b next t f g = record { answer = go t ∙ sym (ap readingOf (ap₂ inOrder e f ∙ ap (λ (u : Bool). choose u (accepted b) (refused 9)) (sym g))) }
-    where
-      go : (u : Bool) → choose u Accepted (Refused 9) ≡ readingOf (choose u (accepted b) (refused 9))
-      go true = refl
-      go false = refl
+  module _ (b : Book) (next : ℕ) (f : whole s limits atomsAt ≡ found b next) where
+    by-loops : (t : Bool) → loopFree b ≡ t → readingOf (decode s) ≡ readingOf (choose t (accepted b) (refused 9 (loopPlace b)))
+    unfolding decode inOrder
+    by-loops t g = ap readingOf (ap₂ (inOrder s) e f ∙ ap (λ (u : Bool). choose u (accepted b) (refused 9 (loopPlace b))) g)
+
+    pub accepted-free : loopFree b ≡ true → Reads s Accepted
+    accepted-free g = record { answer = sym (by-loops true g) }
+
+    pub refused-loop : (at : ℕ) → loopFree b ≡ false → at ≡ loopPlace b → Reads s (Refused 9 at)
+    refused-loop at g p = record { answer = ap (Refused 9) p ∙ sym (by-loops false g) }
 
 -- ---- what an answer says
 
@@ -49,11 +56,14 @@ read-book s r h e = go (decode s) refl (sym (h .answer) ∙ e)
   where
     go : (d : Decoded) → decode s ≡ d → readingOf d ≡ Accepted → IsBook s
     go (accepted b) i j = is-book s b i
-    go (refused n) i j = let z : _≡_ {A = ℕ} 0 1 = cc in absurd (omega arith)
+    go (refused n at) i j = let z : _≡_ {A = ℕ} 0 1 = cc in absurd (omega arith)
 
-pub read-refused : (s : List ℕ) (r : Reading) (n : ℕ) → Reads s r → r ≡ Refused n → decode s ≡ refused n
-read-refused s r n h e = go (decode s) refl (sym (h .answer) ∙ e)
+pub read-refused : (s : List ℕ) (r : Reading) (n at : ℕ) → Reads s r → r ≡ Refused n at → decode s ≡ refused n at
+read-refused s r n at h e = go (decode s) refl (sym (h .answer) ∙ e)
   where
-    go : (d : Decoded) → decode s ≡ d → readingOf d ≡ Refused n → decode s ≡ refused n
+    go : (d : Decoded) → decode s ≡ d → readingOf d ≡ Refused n at → decode s ≡ refused n at
     go (accepted b) i j = let z : _≡_ {A = ℕ} 0 1 = cc in absurd (omega arith)
-    go (refused m) i j = let same : m ≡ n = cc in i ∙ ap refused same
+    go (refused m p) i j =
+        let number : m ≡ n = cc in
+        let place : p ≡ at = cc in
+        i ∙ ap₂ refused number place

@@ -18,6 +18,18 @@ pub fn numbered(word: &[u8], n: u64) {
     io::write_all(1, b"\n");
 }
 
+// The image's own refusal where nothing is searched, and the line ends.
+pub fn broken(number: u8, place: usize) {
+    count(b"refused ", number as u64);
+    numbered(b" at ", place as u64);
+}
+
+// The same where a search would tell its nodes, and the line goes on.
+pub fn unsearched(number: u8, place: usize) {
+    searched(b"refused ", number as u32, 0);
+    count(b" at ", place as u64);
+}
+
 // A word with its number, and the nodes.
 pub fn searched(word: &[u8], number: u32, nodes: u32) {
     count(word, number as u64);

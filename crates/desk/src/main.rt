@@ -1,5 +1,5 @@
 // The engine's calls as jobs, for the command ./wizogbare. The first argument names the job, the others are what it takes, and
-// the answer is one line, whose first word says how the job ended. All numbers are decimal. FILE is a file's name, or `-` for
+// the answer is one line, whose first word says how the job ended; ` at P` stands behind refusals 1 to 9. All numbers are decimal. FILE is a file's name, or `-` for
 // standard input; at most its first 8,752 bytes are taken, one more than the longest image has, or of a TEXT its first 32,769, one
 // more than the longest text.
 //

@@ -17,6 +17,7 @@ use Rattle.image.specs.paper.Book.{Book}
 use Rattle.image.specs.paper.Faults.{limits}
 use Rattle.image.specs.paper.Decode.{Decoded, accepted, refused, decode}
 use Rattle.image.specs.Numbers.{decode-number}
+use Rattle.placing.specs.Most.{place-most}
 use Rattle.image.specs.Accepted.{within}
 use Rattle.book.specs.paper.Reading.{Reads, readingOf}
 use Rattle.book.specs.declared.Reading.{Reading}
@@ -35,7 +36,7 @@ use Rattle.sets.specs.paper.Kept.{longest}
 use Rattle.joiner.specs.JoinLaws.{joins-outcome}
 use Rattle.joiner.specs.declared.Joined.{Joined}
 use Rattle.joiner.specs.declared.Joined.the-variants as joined
-use Rattle.lister.specs.paper.Promise.{mostBudget, Result, turned, searched, byBook, resultOf, answerOf, Lists}
+use Rattle.lister.specs.paper.Promise.{mostBudget, Result, broken, turned, searched, byBook, resultOf, answerOf, Lists}
 use Rattle.lister.specs.declared.Listing.{Listing}
 use Rattle.lister.specs.declared.Listing.the-variants as list
 use Rattle.engine.specs.paper.Verdict.{named, asked, verdictResult, decided, verdictOf, Verdicts}
@@ -77,9 +78,16 @@ pub record RefusedAt (m n : ℕ) : Type 0 where
 refusal : (m : ℕ) → 1 ≤ m → m ≤ lastNumber → Refusal m
 refusal m p q = record { some = p; most = q }
 
--- the reader's numbers are among them
-by-reader : (s : List ℕ) (n : ℕ) → decode s ≡ refused n → Refusal n
-by-reader s n e = let k = decode-number s n e in refusal n (k .some) (omega (arith, k .most))
+-- a number of the image's own refusals, and its place
+pub record BrokenAt (n at : ℕ) : Type 0 where
+  pub number : Refusal n
+  pub place : at ≤ longestImage
+
+-- the reader's are such
+by-reader : (s : List ℕ) (n at : ℕ) → decode s ≡ refused n at → BrokenAt n at
+by-reader s n at e =
+    let k = decode-number s n at e in
+    record { number = refusal n (k .some) (omega (arith, k .most)); place = place-most s n at e }
 
 tested : {A : Type 0} (P : A → Type 0) (t : Bool) {x y : A} → (t ≡ true → P x) → (t ≡ false → P y) → P (choose t x y)
 tested P true p q = p refl
@@ -89,14 +97,14 @@ tested P false p q = q refl
 
 abbrev pub ReadingWithin : Reading → Type 0
 ReadingWithin reading.Accepted = Unit {0}
-ReadingWithin (reading.Refused n) = Refusal n
+ReadingWithin (reading.Refused n at) = BrokenAt n at
 
 pub reading-within : (s : List ℕ) (r : Reading) → Reads s r → ReadingWithin r
 reading-within s r h = subst ReadingWithin (sym (h .answer)) (go (decode s) refl)
   where
     go : (x : Decoded) → decode s ≡ x → ReadingWithin (readingOf x)
     go (accepted b) e = tt
-    go (refused n) e = by-reader s n e
+    go (refused n at) e = by-reader s n at e
 
 -- ---- judge
 
@@ -104,6 +112,7 @@ abbrev pub JudgementWithin : Judgement → Type 0
 JudgementWithin judgement.Explains = Unit {0}
 JudgementWithin (judgement.FalseGoal p) = p ≤ limits .goal
 JudgementWithin (judgement.BrokenConstraint p) = p ≤ limits .constraints
+JudgementWithin (judgement.Broken n at) = BrokenAt n at
 JudgementWithin (judgement.Refused n) = Refusal n
 
 pub judgement-within : (s : List ℕ) (d : ℕ) (r : Judgement) → Judges s d r → JudgementWithin r
@@ -111,7 +120,7 @@ unfolding judged judgedBook
 judgement-within s d r h = subst JudgementWithin (sym (h .answer)) (go (decode s) refl)
   where
     go : (x : Decoded) → decode s ≡ x → JudgementWithin (judgedOf x d)
-    go (refused n) e = by-reader s n e
+    go (refused n at) e = by-reader s n at e
     go (accepted b) e =
         let few = within s b e in
         tested JudgementWithin (leb (2 ^ b .abducibles) d) (λ _. refusal 23 (omega arith) (omega arith))
@@ -124,6 +133,7 @@ judgement-within s d r h = subst JudgementWithin (sym (h .answer)) (go (decode s
 -- ---- list
 
 abbrev ResultWithin : Result → Type 0
+ResultWithin (broken n at) = BrokenAt n at
 ResultWithin (turned m) = Refusal m
 ResultWithin (searched (finished l n)) = Counts (length l) n
 ResultWithin (searched (used-up n)) = n ≤ mostNodes
@@ -146,7 +156,7 @@ unfolding resultOf
 result-within s budget room space = go (decode s) refl
   where
     go : (x : Decoded) → decode s ≡ x → ResultWithin (byBook x room space budget)
-    go (refused n) e = by-reader s n e
+    go (refused n at) e = by-reader s n at e
     go (accepted b) e =
         tested ResultWithin (ltb longest room) (λ _. refusal 20 (omega arith) (omega arith))
         (λ few. tested ResultWithin (ltb space workNumbers) (λ _. refusal 21 (omega arith) (omega arith))
@@ -155,6 +165,7 @@ result-within s budget room space = go (decode s) refl
 
 abbrev pub ListingWithin : Listing → Type 0
 ListingWithin (list.Listed k n) = Counts k n
+ListingWithin (list.Broken n at) = BrokenAt n at
 ListingWithin (list.Refused m n) = RefusedAt m n
 
 pub listing-within : (s : List ℕ) (budget : ℕ) (sets work : List ℕ) (r : Listing) (sets′ work′ : List ℕ)
@@ -163,6 +174,7 @@ listing-within s budget sets work r sets′ work′ h =
     subst ListingWithin (sym (h .answer)) (go (resultOf s budget (length sets) (length work)) (result-within s budget (length sets) (length work)))
   where
     go : (x : Result) → ResultWithin x → ListingWithin (answerOf x)
+    go (broken n at) k = k
     go (turned m) k = record { number = k; nodes = omega arith }
     go (searched (finished l n)) k = k
     go (searched (used-up n)) k = record { number = refusal 30 (omega arith) (omega arith); nodes = k }
@@ -175,6 +187,7 @@ VerdictWithin (verdict.Unexplained n) = n ≤ mostNodes
 VerdictWithin (verdict.Needed n) = n ≤ mostNodes
 VerdictWithin (verdict.Possible n) = n ≤ mostNodes
 VerdictWithin (verdict.RuledOut n) = n ≤ mostNodes
+VerdictWithin (verdict.Broken n at) = BrokenAt n at
 VerdictWithin (verdict.Refused m n) = RefusedAt m n
 
 pub verdict-within : (s : List ℕ) (h budget : ℕ) (sets work : List ℕ) (r : Verdict) (sets′ work′ : List ℕ)
@@ -187,6 +200,7 @@ verdict-within s h budget sets work r sets′ work′ v =
     (go (verdictResult s h budget room space) (ask (named (decode s) h) (resultOf s budget room space) (result-within s budget room space)))
   where
     ask : (t : Bool) (x : Result) → ResultWithin x → ResultWithin (asked t x)
+    ask t (broken n at) k = k
     ask t (turned m) k = k
     ask true (searched o) k = k
     ask false (searched o) k = refusal 23 (omega arith) (omega arith)
@@ -198,6 +212,7 @@ verdict-within s h budget sets work r sets′ work′ v =
         (λ _. tested VerdictWithin (any (λ (x : ℕ). has x h) (d ∷ l)) (λ _. k) (λ _. k))
 
     go : (x : Result) → ResultWithin x → VerdictWithin (verdictOf h x)
+    go (broken n at) k = k
     go (turned m) k = record { number = k; nodes = omega arith }
     go (searched (finished l n)) k = decides l n (k .nodes)
     go (searched (used-up n)) k = record { number = refusal 30 (omega arith) (omega arith); nodes = k }
@@ -255,6 +270,6 @@ writing-within what few text room r after h = subst WritingWithin (sym (h .answe
     go : (e : Written) → Ends what text (length room) e → WritingWithin (writingOf e)
     go e (malformed none) = (omega arith, omega arith)
     go e (clashes d s t) = (omega arith, omega arith)
-    go e (turned d n c t) = let k = by-reader (imageOf d) n t in (k .some, omega (arith, k .most))
+    go e (turned d n at c t) = let k = by-reader (imageOf d) n at t .number in (k .some, omega (arith, k .most))
     go e (short d c t k) = (omega arith, omega arith)
     go e (whole d c t k) = few text d c t

@@ -29,7 +29,7 @@ use Rattle.image.specs.declared.Writing.the-variants as writing
 use Rattle.spelling.specs.paper.Document.{Document}
 use Rattle.spelling.specs.paper.Answer.{imageOf, nameLines, Writes}
 use Rattle.spelling.specs.Answers.{writes-unique}
-use Rattle.embed.specs.paper.Codes.{nodeCodes, kindCodes, falseGoal, brokenConstraint, judgeRefused, listRefused, needed, possible, ruledOut, verdictRefused, readingCode, ReadingCode, judgementCode, JudgementCode, listingCode, ListingCode, verdictCode, VerdictCode, joinedCode, JoinedCode, writingCode, WritingCode}
+use Rattle.embed.specs.paper.Codes.{nodeCodes, kindCodes, falseGoal, brokenConstraint, judgeRefused, judgeBroken, listRefused, listBroken, needed, possible, ruledOut, verdictRefused, verdictBroken, brokenCode, readingCode, ReadingCode, judgementCode, JudgementCode, listingCode, ListingCode, verdictCode, VerdictCode, joinedCode, JoinedCode, writingCode, WritingCode}
 use Rattle.embed.specs.Bounds.{ReadingWithin, reading-within, JudgementWithin, judgement-within, ListingWithin, listing-within, VerdictWithin, verdict-within, JoinedWithin, joined-within, WritingWithin, Short, image-short, lines-short, writing-within}
 
 -- ---- two results that meet one of the promises are equal
@@ -82,37 +82,45 @@ parted read code k n e h =
     let low : code % nodeCodes ≡ n = omega arith in
     ap₂ read high low
 
-reading-at : ℕ → Reading
-reading-at zero = reading.Accepted
-reading-at (suc n) = reading.Refused (suc n)
+reading-at : ℕ → ℕ → Reading
+reading-at zero at = reading.Accepted
+reading-at (suc n) at = reading.Refused (suc n) at
 
-reading-back : (r : Reading) → ReadingWithin r → reading-at (readingCode r) ≡ r
+reading-back : (r : Reading) → ReadingWithin r → reading-at (readingCode r / nodeCodes) (readingCode r % nodeCodes) ≡ r
 unfolding reading-at
 reading-back reading.Accepted k = refl
-reading-back (reading.Refused zero) k = absurd (omega (arith, k .some))
-reading-back (reading.Refused (suc n)) k = refl
+reading-back (reading.Refused zero at) k = absurd (omega (arith, k .number .some))
+reading-back (reading.Refused (suc n) at) k = parted reading-at (brokenCode (suc n) at) (suc n) at refl (omega (arith, k .place))
 
 judgement-at : ℕ → ℕ → Judgement
 judgement-at zero p = judgement.Explains
 judgement-at (suc zero) p = judgement.FalseGoal p
 judgement-at (suc (suc zero)) p = judgement.BrokenConstraint p
-judgement-at (suc (suc (suc kind))) n = judgement.Refused n
+judgement-at (suc (suc (suc zero))) n = judgement.Refused n
+judgement-at (suc (suc (suc (suc kind)))) rest = judgement.Broken (rest / nodeCodes) (rest % nodeCodes)
 
 judgement-back : (r : Judgement) → JudgementWithin r → judgement-at (judgementCode r / kindCodes) (judgementCode r % kindCodes) ≡ r
 unfolding judgement-at
 judgement-back judgement.Explains k = refl
 judgement-back (judgement.FalseGoal p) k = told judgement-at (falseGoal + p) 1 p (omega arith) (omega arith)
 judgement-back (judgement.BrokenConstraint p) k = told judgement-at (brokenConstraint + p) 2 p (omega arith) (omega arith)
+judgement-back (judgement.Broken n at) k =
+    told judgement-at (judgeBroken + brokenCode n at) 4 (brokenCode n at) (omega arith) (omega arith)
+    ∙ parted judgement.Broken (brokenCode n at) n at refl (omega arith)
 judgement-back (judgement.Refused n) k = told judgement-at (judgeRefused + n) 3 n (omega arith) (omega arith)
 
 listing-at : ℕ → ℕ → Listing
 listing-at zero rest = listing.Listed (rest / nodeCodes) (rest % nodeCodes)
-listing-at (suc kind) rest = listing.Refused (rest / nodeCodes) (rest % nodeCodes)
+listing-at (suc zero) rest = listing.Refused (rest / nodeCodes) (rest % nodeCodes)
+listing-at (suc (suc kind)) rest = listing.Broken (rest / nodeCodes) (rest % nodeCodes)
 
 listing-back : (r : Listing) → ListingWithin r → listing-at (listingCode r / kindCodes) (listingCode r % kindCodes) ≡ r
 unfolding listing-at
 listing-back (listing.Listed k n) w =
     told listing-at (nodeCodes * k + n) 0 (nodeCodes * k + n) (omega arith) (omega arith) ∙ parted listing.Listed (nodeCodes * k + n) k n refl (omega arith)
+listing-back (listing.Broken n at) w =
+    told listing-at (listBroken + brokenCode n at) 2 (brokenCode n at) (omega arith) (omega arith)
+    ∙ parted listing.Broken (brokenCode n at) n at refl (omega arith)
 listing-back (listing.Refused m n) w =
     told listing-at (listRefused + nodeCodes * m + n) 1 (nodeCodes * m + n) (omega arith) (omega arith) ∙ parted listing.Refused (nodeCodes * m + n) m n refl (omega arith)
 
@@ -121,7 +129,8 @@ verdict-at zero n = verdict.Unexplained n
 verdict-at (suc zero) n = verdict.Needed n
 verdict-at (suc (suc zero)) n = verdict.Possible n
 verdict-at (suc (suc (suc zero))) n = verdict.RuledOut n
-verdict-at (suc (suc (suc (suc kind)))) rest = verdict.Refused (rest / nodeCodes) (rest % nodeCodes)
+verdict-at (suc (suc (suc (suc zero)))) rest = verdict.Refused (rest / nodeCodes) (rest % nodeCodes)
+verdict-at (suc (suc (suc (suc (suc kind))))) rest = verdict.Broken (rest / nodeCodes) (rest % nodeCodes)
 
 verdict-back : (r : Verdict) → VerdictWithin r → verdict-at (verdictCode r / kindCodes) (verdictCode r % kindCodes) ≡ r
 unfolding verdict-at
@@ -129,6 +138,9 @@ verdict-back (verdict.Unexplained n) w = told verdict-at n 0 n (omega arith) (om
 verdict-back (verdict.Needed n) w = told verdict-at (needed + n) 1 n (omega arith) (omega arith)
 verdict-back (verdict.Possible n) w = told verdict-at (possible + n) 2 n (omega arith) (omega arith)
 verdict-back (verdict.RuledOut n) w = told verdict-at (ruledOut + n) 3 n (omega arith) (omega arith)
+verdict-back (verdict.Broken n at) w =
+    told verdict-at (verdictBroken + brokenCode n at) 5 (brokenCode n at) (omega arith) (omega arith)
+    ∙ parted verdict.Broken (brokenCode n at) n at refl (omega arith)
 verdict-back (verdict.Refused m n) w =
     told verdict-at (verdictRefused + nodeCodes * m + n) 4 (nodeCodes * m + n) (omega arith) (omega arith) ∙ parted verdict.Refused (nodeCodes * m + n) m n refl (omega arith)
 
@@ -155,7 +167,7 @@ writing-back (writing.Refused (suc n)) w = parted writing-at (nodeCodes * suc n)
 -- ---- so no two answers that meet the promise of a call, on whatever inputs, have one code
 
 pub reading-code-tells : (s t : List ℕ) (a c : Reading) → Reads s a → Reads t c → readingCode a ≡ readingCode c → a ≡ c
-reading-code-tells s t a c p q e = sym (reading-back a (reading-within s a p)) ∙ ap reading-at e ∙ reading-back c (reading-within t c q)
+reading-code-tells s t a c p q e = sym (reading-back a (reading-within s a p)) ∙ ap (λ (x : ℕ). reading-at (x / nodeCodes) (x % nodeCodes)) e ∙ reading-back c (reading-within t c q)
 
 pub judgement-code-tells : (s : List ℕ) (d : ℕ) (t : List ℕ) (f : ℕ) (a c : Judgement) → Judges s d a → Judges t f c → judgementCode a ≡ judgementCode c → a ≡ c
 judgement-code-tells s d t f a c p q e =

@@ -1,7 +1,11 @@
 // The engine for callers in C and Rust: each call under a plain name, its answer as one number (specs/paper/Codes). A `&[u8]` is passed
 // as a pointer and then a length.
 
+mod codes;
+
 use book::Reading;
+use codes::NODE_CODES;
+use codes::broken_code;
 use engine::Joined;
 use engine::Judgement;
 use engine::Listing;
@@ -11,9 +15,7 @@ ghost use mathlib.Core.Path.{_≡_};
 ghost use Rattle.embed.specs.paper.Codes.{ReadingCode, JudgementCode, ListingCode, VerdictCode, JoinedCode, writingCode, WritingCode};
 ghost use Rattle.spelling.specs.paper.Answer.{imageOf, nameLines};
 
-// How many codes there are for the nodes, or for a count without nodes, 2^32, and for a kind of answer, 2^56.
-const NODE_CODES: u64 = 1 << 32;
-
+// How many codes there are for a kind of answer, 2^56.
 const KIND_CODES: u64 = 1 << 56;
 
 // Where the codes of each kind begin, but of the first.
@@ -23,7 +25,11 @@ const BROKEN_CONSTRAINT: u64 = 2 * KIND_CODES;
 
 const JUDGE_REFUSED: u64 = 3 * KIND_CODES;
 
+const JUDGE_BROKEN: u64 = 4 * KIND_CODES;
+
 const LIST_REFUSED: u64 = KIND_CODES;
+
+const LIST_BROKEN: u64 = 2 * KIND_CODES;
 
 const NEEDED: u64 = KIND_CODES;
 
@@ -33,13 +39,15 @@ const RULED_OUT: u64 = 3 * KIND_CODES;
 
 const VERDICT_REFUSED: u64 = 4 * KIND_CODES;
 
+const VERDICT_BROKEN: u64 = 5 * KIND_CODES;
+
 #[no_mangle]
-pub extern "C" fn wizogbare_read(image: &[u8]) -> u32
+pub extern "C" fn wizogbare_read(image: &[u8]) -> u64
     ensures { λ r. ⌜ ReadingCode (now (image .entry)) r ⌝ }
 {
     match book::read(image) {
         Reading::Accepted => 0,
-        Reading::Refused(n) => n as u32,
+        Reading::Refused(n, place) => broken_code(n, place),
     }
 }
 
@@ -51,6 +59,7 @@ pub extern "C" fn wizogbare_judge(image: &[u8], set: u64) -> u64
         Judgement::Explains => 0,
         Judgement::FalseGoal(p) => FALSE_GOAL + p as u64,
         Judgement::BrokenConstraint(p) => BROKEN_CONSTRAINT + p as u64,
+        Judgement::Broken(n, place) => JUDGE_BROKEN + broken_code(n, place),
         Judgement::Refused(n) => JUDGE_REFUSED + n as u64,
     }
 }
@@ -66,6 +75,7 @@ pub extern "C" fn wizogbare_list(
 {
     match engine::list(image, budget, sets, work) {
         Listing::Listed(k, n) => NODE_CODES * (k as u64) + n as u64,
+        Listing::Broken(n, place) => LIST_BROKEN + broken_code(n, place),
         Listing::Refused(m, n) => LIST_REFUSED + NODE_CODES * (m as u64) + n as u64,
     }
 }
@@ -85,6 +95,7 @@ pub extern "C" fn wizogbare_verdict(
         Verdict::Needed(n) => NEEDED + n as u64,
         Verdict::Possible(n) => POSSIBLE + n as u64,
         Verdict::RuledOut(n) => RULED_OUT + n as u64,
+        Verdict::Broken(n, place) => VERDICT_BROKEN + broken_code(n, place),
         Verdict::Refused(m, n) => VERDICT_REFUSED + NODE_CODES * (m as u64) + n as u64,
     }
 }

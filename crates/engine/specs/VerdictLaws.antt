@@ -23,17 +23,17 @@ use Rattle.sets.specs.paper.Kept.{zeros}
 use Rattle.searching.specs.paper.Rules.{finished, used-up, no-room}
 use Rattle.searching.specs.paper.Explanations.{Explanations}
 use Rattle.searching.specs.Main.{explanations-none}
-use Rattle.lister.specs.paper.Promise.{Result, turned, searched, resultOf, answerOf, setsOf, workOf, Explained, Lists}
+use Rattle.lister.specs.paper.Promise.{Result, broken, turned, searched, resultOf, answerOf, setsOf, workOf, Explained, Lists}
 use Rattle.lister.specs.PromiseLaws.{Admitted, Early, admitted-result}
 use Rattle.lister.specs.declared.Asked.{Asked}
-use Rattle.lister.specs.declared.Asked.the-variants.{Turned}
+use Rattle.lister.specs.declared.Asked.the-variants.{Broken as BrokenBook, Turned}
 use Rattle.lister.specs.declared.Listing.{Listing}
 use Rattle.lister.specs.declared.Listing.the-variants as listing
 use Rattle.image.specs.paper.Faults.{limits}
 use Rattle.image.specs.Accepted.{bookIn, within, orderly}
 use Rattle.engine.specs.declared.Verdict.{Verdict}
-use Rattle.engine.specs.declared.Verdict.the-variants.{Needed, Possible, RuledOut, Refused}
-use Rattle.engine.specs.paper.Verdict.{named, asked, verdictResult, decided, verdictOf, InSome, Says, nodesOf, Meant, Verdicts}
+use Rattle.engine.specs.declared.Verdict.the-variants.{Needed, Possible, RuledOut, Broken, Refused}
+use Rattle.engine.specs.paper.Verdict.{named, asked, verdictResult, decided, verdictOf, InSome, Says, nodesOf, Meant, Refusal, Verdicts}
 
 -- two results that meet the promise are equal
 pub verdicts-unique : (image : List ℕ) (h budget : ℕ) (list area : List ℕ) (r q : Verdict) (list₁ area₁ list₂ area₂ : List ℕ)
@@ -91,10 +91,22 @@ module _ (image : List ℕ) (h budget : ℕ) (list area : List ℕ) where
     answer = ap (verdictOf h) (sym e);
     sets = ap (λ (x : Result). setsOf x list) (sym e);
     work = ap (λ (x : Result). workOf x area) (sym e);
-    meaning = λ verdict. absurd (verdict n 0 refl);
+    meaning = λ verdict. absurd (verdict tt);
   }
 
   -- a refusal before any search
+  pub verdict-broken : (n at : ℕ) (r : Asked) → Early image budget (length list) (length area) r → r ≡ BrokenBook n at → Verdicts image h budget list area (Broken n at) list area
+  unfolding verdictResult
+  verdict-broken n at r early i =
+      let e : verdictResult image h budget (length list) (length area) ≡ broken n at =
+      ap (asked (named (decode image) h)) (subst (Early image budget (length list) (length area)) i early) in
+      record {
+        answer = ap (verdictOf h) (sym e);
+        sets = ap (λ (x : Result). setsOf x list) (sym e);
+        work = ap (λ (x : Result). workOf x area) (sym e);
+        meaning = λ verdict. absurd (verdict tt);
+      }
+
   pub verdict-early : (n : ℕ) (r : Asked) → Early image budget (length list) (length area) r → r ≡ Turned n → Verdicts image h budget list area (Refused n 0) list area
   unfolding verdictResult
   verdict-early n r early i = turned-away n (ap (asked (named (decode image) h)) (subst (Early image budget (length list) (length area)) i early))
@@ -133,6 +145,7 @@ pub lists-count : (image : List ℕ) (budget : ℕ) (list area : List ℕ) (r : 
 lists-count image budget list area r list′ area′ lists k n i = go (resultOf image budget (length list) (length area)) (sym i ∙ lists .answer) (lists .sets)
   where
     go : (x : Result) → listing.Listed k n ≡ answerOf x → list′ ≡ setsOf x list → k ≤ length list′
+    go (broken j at) q t = let z : _≡_ {A = ℕ} 0 1 = cc in absurd (omega arith)
     go (turned j) q t = let z : _≡_ {A = ℕ} 0 1 = cc in absurd (omega arith)
     go (searched (finished l j)) q t =
         let many : k ≡ length l = cc in
@@ -148,7 +161,7 @@ module _ (image : List ℕ) (h budget : ℕ) (list area list′ area′ : List �
     result : Result
     result = resultOf image budget (length list) (length area)
 
-    left : (q : Verdict) → q ≡ verdictOf h result → (((m n : ℕ) → q ≡ Refused m n → ⊥) → Meant image h q) → Verdicts image h budget list area q list′ area′
+    left : (q : Verdict) → q ≡ verdictOf h result → ((Refusal q → ⊥) → Meant image h q) → Verdicts image h budget list area q list′ area′
     unfolding result
     left q a meant =
         record {
@@ -160,13 +173,26 @@ module _ (image : List ℕ) (h budget : ℕ) (list area list′ area′ : List �
 
     pub verdict-refused : (m n : ℕ) → r ≡ listing.Refused m n → Verdicts image h budget list area (Refused m n) list′ area′
     unfolding result
-    verdict-refused m n i = left (Refused m n) (go result (sym i ∙ lists .answer)) (λ verdict. absurd (verdict m n refl))
+    verdict-refused m n i = left (Refused m n) (go result (sym i ∙ lists .answer)) (λ verdict. absurd (verdict tt))
       where
         go : (x : Result) → listing.Refused m n ≡ answerOf x → Refused m n ≡ verdictOf h x
+        go (broken k at) q = let z : _≡_ {A = ℕ} 0 1 = cc in absurd (omega arith)
         go (turned k) q = let a : m ≡ k = cc in let c : n ≡ 0 = cc in ap₂ Refused a c
         go (searched (finished l k)) q = let z : _≡_ {A = ℕ} 0 1 = cc in absurd (omega arith)
         go (searched (used-up k)) q = let a : m ≡ 30 = cc in let c : n ≡ k = cc in ap₂ Refused a c
         go (searched (no-room k)) q = let a : m ≡ 31 = cc in let c : n ≡ k = cc in ap₂ Refused a c
+
+    -- a listing whose image is at fault is none of these
+    pub verdict-at-fault : (m at : ℕ) → r ≡ listing.Broken m at → Verdicts image h budget list area (Broken m at) list′ area′
+    unfolding result
+    verdict-at-fault m at i = left (Broken m at) (go result (sym i ∙ lists .answer)) (λ verdict. absurd (verdict tt))
+      where
+        go : (x : Result) → listing.Broken m at ≡ answerOf x → Broken m at ≡ verdictOf h x
+        go (broken k p) q = let a : m ≡ k = cc in let c : at ≡ p = cc in ap₂ Broken a c
+        go (turned k) q = let z : _≡_ {A = ℕ} 0 1 = cc in absurd (omega arith)
+        go (searched (finished l k)) q = let z : _≡_ {A = ℕ} 0 1 = cc in absurd (omega arith)
+        go (searched (used-up k)) q = let z : _≡_ {A = ℕ} 0 1 = cc in absurd (omega arith)
+        go (searched (no-room k)) q = let z : _≡_ {A = ℕ} 0 1 = cc in absurd (omega arith)
 
     pub verdict-listed : (k n : ℕ) → r ≡ listing.Listed k n → Verdicts image h budget list area (decided h (take k list′) n) list′ area′
     unfolding result
@@ -175,6 +201,7 @@ module _ (image : List ℕ) (h budget : ℕ) (list area list′ area′ : List �
         (λ verdict. listed-meant image h k n list′ (lists .explanations k n i))
       where
         go : (x : Result) → listing.Listed k n ≡ answerOf x → list′ ≡ setsOf x list → decided h (take k list′) n ≡ verdictOf h x
+        go (broken j at) q t = let z : _≡_ {A = ℕ} 0 1 = cc in absurd (omega arith)
         go (turned j) q t = let z : _≡_ {A = ℕ} 0 1 = cc in absurd (omega arith)
         go (searched (finished l j)) q t =
             let many : length l ≡ k = cc in

@@ -13,25 +13,26 @@ ghost use Rattle.joiner.specs.paper.Join.{Joins};
 
 mod deciding;
 
-// The verdict, or a refusal's number; the nodes last.
+// The verdict, or a refusal's number, then the nodes; or the number of the image's own refusal, then its place.
 pub enum Verdict {
     Unexplained(u32),
     Needed(u32),
     Possible(u32),
     RuledOut(u32),
+    Broken(u8, usize),
     Refused(u8, u32),
 }
 
 // Whether the set explains; or where it fails: the place of the first goal literal that is false, or with all of them true of the first
-// constraint that is broken; or 1 to 9, 23.
+// constraint that is broken; or 1 to 9 with the place, 23.
 pub fn judge(image: &[u8], set: u64) -> Judgement
     ensures { λ r. ⌜ Judges (now (image .entry)) set r ⌝ }
 {
     judging::judge(image, set)
 }
 
-// Every smallest set that explains, once, at the front of `sets`, then zeros: how many, and the nodes of the search; or 1 to 9, 20,
-// 21, 22, 30, 31 with the nodes.
+// Every smallest set that explains, once, at the front of `sets`, then zeros: how many, and the nodes of the search; or 1 to 9
+// with the place, 20, 21, 22, 30, 31 with the nodes.
 pub fn list(image: &[u8], budget: u32, sets: &mut [u64], work: &mut [u32]) -> Listing
     ensures { λ r. ⌜ Lists (now (image .entry)) budget (now (sets .entry)) (now (work .entry)) r (now (sets .exit)) (now (work .exit)) ⌝ }
 {
@@ -50,12 +51,14 @@ pub fn verdict_on(
     ensures { λ r. ⌜ Verdicts (now (image .entry)) hypothesis budget (now (sets .entry)) (now (work .entry)) r (now (sets .exit)) (now (work .exit)) ⌝ }
 {
     match lister::before_search(image, budget, sets.len(), work.len()) {
+        Asked::Broken(number, place) => Verdict::Broken(number, place),
         Asked::Turned(number) => Verdict::Refused(number, 0),
         Asked::Search => {
             if front::abducibles(image) <= hypothesis {
                 return Verdict::Refused(23, 0);
             }
             match lister::list_book(image, budget, sets, work) {
+                Listing::Broken(number, place) => Verdict::Broken(number, place),
                 Listing::Refused(number, nodes) => Verdict::Refused(number, nodes),
                 Listing::Listed(count, nodes) => deciding::decide(sets, count, hypothesis, nodes),
             }

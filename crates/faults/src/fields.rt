@@ -37,8 +37,9 @@ fn tested(image: &[u8], at: usize, x: u32, wrong: u8) -> Taken
     if !is_there(image, at) {
         return Taken::Fault(4, at);
     }
+    let next = at + 2;
     if wrong == 0 {
-        return Taken::Found(x, at + 2);
+        return Taken::Found(x, next);
     }
     Taken::Fault(wrong, at)
 }

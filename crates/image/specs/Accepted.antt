@@ -17,7 +17,7 @@ use Rattle.image.specs.Written.{Within, decode-written}
 
 abbrev theBook : Decoded → Book
 theBook (accepted b) = b
-theBook (refused n) = record { atoms = 0; abducibles = 0; goal = []; clauses = []; constraints = [] }
+theBook (refused n p) = record { atoms = 0; abducibles = 0; goal = []; clauses = []; constraints = [] }
 
 -- the book that an image says, where it is accepted
 unfoldable pub bookIn : List ℕ → Book

@@ -4,6 +4,7 @@ pub mod Sound
 pub mod WalkLaws
 pub mod FaultLaws
 pub mod LoopLaws
+pub mod Reached
 pub mod Spell
 pub mod Laid
 pub mod StandsLaws

@@ -144,7 +144,7 @@ quiet-free b h = none-quiet (b .clauses) (b .atoms) (b .atoms) h
 -- ---- from the rounds to the relation: a long chain of atoms has one twice
 
 -- no member twice
-data Distinct : List ℕ → Type 0 where
+pub data Distinct : List ℕ → Type 0 where
   none : Distinct []
   more : {a : ℕ} {l : List ℕ} → (a ∈ l → ⊥) → Distinct l → Distinct (a ∷ l)
 
@@ -186,7 +186,7 @@ lower n (a ∷ l) (more out d) h =
           count = let c : length l ≤ suc (length (r .rest)) = r .count in omega arith;
         }
 
-distinct-few : (n : ℕ) (l : List ℕ) → Distinct l → Every (λ (a : ℕ). a < n) l → length l ≤ n
+pub distinct-few : (n : ℕ) (l : List ℕ) → Distinct l → Every (λ (a : ℕ). a < n) l → length l ≤ n
 distinct-few zero [] d h = omega arith
 distinct-few zero (a ∷ l) d h = let no : a < 0 = every-first h in absurd (omega arith)
 distinct-few (suc n) l d h =

@@ -13,7 +13,7 @@ use Rattle.image.specs.paper.Book.{Book, bodyCount, literalCount}
 use Rattle.image.specs.paper.Walk.{Step, found, fault, Walk, after, Finding, fine, wrong, unless, andThen, tested, fieldAt, field, running, times}
 use Rattle.image.specs.paper.Faults.{Limits, limits, wrongAtoms, wrongAbducibles, wrongCount, wrongLit, wrongHead, wrongSize, wrongClause, bodyOf, wrongConditions, wrongAlternative}
 use Rattle.image.specs.paper.Loops.{loopFree}
-use Rattle.image.specs.paper.Decode.{literal, clause, alternative, alternatives, inside, constraint, counted, clausesAndConstraints, book, ends, whole, lengthField, wrongFront, accepted, refused, inOrder, decode}
+use Rattle.image.specs.paper.Decode.{literal, clause, alternative, alternatives, inside, constraint, counted, clausesAndConstraints, book, ends, whole, lengthField, wrongFront, loopPlace, accepted, refused, inOrder, decode}
 
 -- one of the reader's numbers
 pub record Number (n : ℕ) : Type 0 where
@@ -196,15 +196,15 @@ module _ (image : List ℕ) where
       (rung (eqb (lengthField image) (length image - atomsAt)) (numbered 3 (omega arith) (omega arith)) passed))
 
   -- An image is refused by 1 to 9.
-  pub decode-number : (n : ℕ) → decode image ≡ refused n → Number n
+  pub decode-number : (n place : ℕ) → decode image ≡ refused n place → Number n
   unfolding decode inOrder
-  decode-number n e = go front-tested (whole-walked limits atomsAt) e
+  decode-number n place e = go front-tested (whole-walked limits atomsAt) e
     where
-      last : (b : Book) (t : Bool) → choose t (accepted b) (refused 9) ≡ refused n → Number n
+      last : (b : Book) (t : Bool) → choose t (accepted b) (refused 9 (loopPlace b)) ≡ refused n place → Number n
       last b true q = let z : _≡_ {A = ℕ} 0 1 = cc in absurd (omega arith)
       last b false q = let z : 9 ≡ n = cc in numbered n (omega arith) (omega arith)
 
-      go : {f : Finding} {w : Step Book} → Tested f → Stepped w → inOrder f w ≡ refused n → Number n
+      go : {f : Finding} {w : Step Book} → Tested f → Stepped w → inOrder image f w ≡ refused n place → Number n
       go (failed {n = m} k) w q = let z : m ≡ n = cc in subst Number z k
       go passed (ended {n = m} k) q = let z : m ≡ n = cc in subst Number z k
       go passed (onward {x = b}) q = last b (loopFree b) q

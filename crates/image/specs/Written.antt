@@ -18,7 +18,7 @@ use Rattle.image.specs.WalkLaws.{Fielded, field-found, fielded, never}
 use Rattle.image.specs.paper.Faults.{Limits, limits, wrongAtoms, wrongAbducibles, wrongCount}
 use Rattle.image.specs.FaultLaws.{atoms-fine, fine-atoms, abducibles-fine, fine-abducibles, count-fine, fine-count, unless-held, unless-next}
 use Rattle.image.specs.paper.Loops.{loopFree}
-use Rattle.image.specs.paper.Decode.{literal, clause, constraint, counted, clausesAndConstraints, book, ends, whole, lengthField, wrongFront, Decoded, accepted, refused, inOrder, decode}
+use Rattle.image.specs.paper.Decode.{literal, clause, constraint, counted, clausesAndConstraints, book, ends, whole, lengthField, wrongFront, loopPlace, Decoded, accepted, refused, inOrder, decode}
 use Rattle.image.specs.Spell.{ofLits, ofAlternative, ofClause, ofConstraint, ofBoth, words, Stands, more}
 use Rattle.image.specs.StandsLaws.{stands-at, stands-join, stands-left, stands-right, stands-there, stands-value, stands-rest}
 use Rattle.image.specs.Finds.{Read, Finds, after-found, Named, finds-literals, Ran, ran-length, ran-every, ran-sum, every-ran, finds-running, ClauseFine, ClauseFits, finds-clause, ConstraintFine, ConstraintFits, finds-constraint}
@@ -387,9 +387,9 @@ found-whole s most at b r =
 
 isAccepted : Decoded → Type 0
 isAccepted (accepted b) = Unit {0}
-isAccepted (refused n) = ⊥
+isAccepted (refused n p) = ⊥
 
-not-refused : {n : ℕ} {b : Book} → refused n ≡ accepted b → ⊥
+not-refused : {n p : ℕ} {b : Book} → refused n p ≡ accepted b → ⊥
 unfolding isAccepted
 not-refused e = subst isAccepted (sym e) tt
 
@@ -397,11 +397,11 @@ pub decode-written : (s : List ℕ) (b : Book) → decode s ≡ accepted b → W
 unfolding decode inOrder
 decode-written s b e = go (wrongFront s) (whole s limits atomsAt) refl refl e
   where
-    free : (c : Book) (t : Bool) → loopFree c ≡ t → choose t (accepted c) (refused 9) ≡ accepted b → (c ≡ b) × (loopFree c ≡ true)
+    free : (c : Book) (t : Bool) → loopFree c ≡ t → choose t (accepted c) (refused 9 (loopPlace c)) ≡ accepted b → (c ≡ b) × (loopFree c ≡ true)
     free c true t q = (cc (q), t)
     free c false t q = absurd (not-refused q)
 
-    go : (f : Finding) (st : Step Book) → wrongFront s ≡ f → whole s limits atomsAt ≡ st → inOrder f st ≡ accepted b → Written s b
+    go : (f : Finding) (st : Step Book) → wrongFront s ≡ f → whole s limits atomsAt ≡ st → inOrder s f st ≡ accepted b → Written s b
     go (wrong n) st p q r = absurd (not-refused r)
     go fine (fault n at) p q r = absurd (not-refused r)
     go fine (found c next) p q r =
@@ -419,5 +419,5 @@ decode-written s b e = go (wrongFront s) (whole s limits atomsAt) refl refl e
 pub written-decode : (s : List ℕ) (b : Book) → Written s b → decode s ≡ accepted b
 unfolding decode inOrder
 written-decode s b w =
-    ap₂ inOrder (fine-front s (w .front)) (found-whole s limits atomsAt b (record { stands = w .stands; isFine = w .within; behind = w .over }))
-    ∙ choose-true (accepted b) (refused 9) (w .free)
+    ap₂ (inOrder s) (fine-front s (w .front)) (found-whole s limits atomsAt b (record { stands = w .stands; isFine = w .within; behind = w .over }))
+    ∙ choose-true (accepted b) (refused 9 (loopPlace b)) (w .free)

@@ -22,7 +22,7 @@ use Rattle.judging.specs.paper.Failing.{firstFailing}
 use Rattle.judging.specs.paper.Judged.{firstFalse, firstBroken, judgedBook, judgedOf, judged, Judges}
 use Rattle.judging.specs.Notes.{litsOf}
 use Rattle.judging.specs.declared.Judgement.{Judgement}
-use Rattle.judging.specs.declared.Judgement.the-variants.{Explains, FalseGoal, BrokenConstraint, Refused}
+use Rattle.judging.specs.declared.Judgement.the-variants.{Explains, FalseGoal, BrokenConstraint, Broken, Refused}
 use Rattle.image.specs.Shown.{clauseCountAt, abduciblesAt, goalsAt, goalAt}
 use Rattle.image.specs.Places.{shows}
 use Rattle.judging.proofs.Image.{lits-stand, part}
@@ -116,9 +116,9 @@ module _ (s : List ℕ) (accepts : IsBook s) (d abducibles : ℕ) (r : Bool) (e 
 
 -- ---- what the reader found
 
-pub refused-judged : (s : List ℕ) (d n : ℕ) → decode s ≡ refused n → Judges s d (Refused n)
+pub refused-judged : (s : List ℕ) (d n at : ℕ) → decode s ≡ refused n at → Judges s d (Broken n at)
 unfolding judged
-refused-judged s d n e = record { answer = sym (ap (λ (x : Decoded). judgedOf x d) e) }
+refused-judged s d n at e = record { answer = sym (ap (λ (x : Decoded). judgedOf x d) e) }
 
 pub accepted-judged : (s : List ℕ) (d : ℕ) (r : Judgement) → IsBook s → r ≡ judgedBook (bookIn s) d → Judges s d r
 unfolding judged

@@ -22,7 +22,7 @@ use Rattle.judging.specs.FailingLaws.{failing-first, first-failing, fail
 use Rattle.meaning.specs.paper.Completion.{Answer}
 use Rattle.meaning.specs.Entailed.{answer-explains}
 use Rattle.judging.specs.declared.Judgement.{Judgement}
-use Rattle.judging.specs.declared.Judgement.the-variants.{Explains, FalseGoal, BrokenConstraint, Refused}
+use Rattle.judging.specs.declared.Judgement.the-variants.{Explains, FalseGoal, BrokenConstraint, Broken, Refused}
 use Rattle.judging.specs.paper.Judged.{firstFalse, firstBroken, judgedBook, judgedOf, judged, Judges, Means, Said}
 
 -- two answers that meet the promise are equal
@@ -97,6 +97,7 @@ module _ (book : Book) (set : ℕ) where
       (choose-false (Refused 23) afterSet (within (h .0))
       ∙ choose-false (FalseGoal (firstFalse book set)) afterGoal (goal-true (h .1))
       ∙ choose-true (BrokenConstraint (firstBroken book set)) Explains (lt-ltb (firstBroken book set) (length constraints) (omega (arith, f .0, f .1))))
+  so-judged (Broken n at) h = absurd h
   so-judged (Refused n) h =
       ap Refused (h .0)
       ∙ sym
@@ -112,10 +113,10 @@ judged-means s d r = (λ h. mp (decode s) refl h, mpr)
   where
     mp : (x : Decoded) → decode s ≡ x → r ≡ judgedOf x d → Said s d r
     mp (accepted b) e h = inr (b, e, subst (Means b d) (sym h) (judged-so b d))
-    mp (refused n) e h = inl (n, e, h)
+    mp (refused n at) e h = inl (n, at, e, h)
 
     mpr : Said s d r → r ≡ judgedOf (decode s) d
-    mpr (inl h) = h .2 ∙ sym (ap (λ (x : Decoded). judgedOf x d) (h .1))
+    mpr (inl h) = h .3 ∙ sym (ap (λ (x : Decoded). judgedOf x d) (h .2))
     mpr (inr h) = so-judged (h .0) d r (h .2) ∙ sym (ap (λ (x : Decoded). judgedOf x d) (h .1))
 
 -- It answers that the set explains exactly if the image is accepted, the members are abducibles of its book, and they explain.
@@ -123,7 +124,7 @@ pub judged-explains : (s : List ℕ) (d : ℕ) → (judged s d ≡ Explains) ↔
 judged-explains s d = (λ h. mp (judged-means s d Explains .0 (sym h)), λ h. sym (judged-means s d Explains .1 (inr (h .0, h .1, (h .2, h .3)))))
   where
     mp : Said s d Explains → (b : Book) × (decode s ≡ accepted b) × Members b d × (explains b d ≡ true)
-    mp (inl h) = let no : _≡_ {A = ℕ} 0 1 = cc (h .2) in absurd (omega arith)
+    mp (inl h) = let no : _≡_ {A = ℕ} 0 1 = cc (h .3) in absurd (omega arith)
     mp (inr h) = (h .0, h .1, h .2 .0, h .2 .1)
 
 -- So it answers exactly by Fung and Kowalski's meaning.

@@ -14,11 +14,12 @@ ghost use lib.Dec.{leb};
 ghost use Rattle.image.specs.Accepted.{IsBook, bookIn};
 ghost use Rattle.judging.specs.paper.Judged.{judgedBook, Judges};
 
-// The judge's answer. Places are from 0.
+// The judge's answer. Goal literals and constraints are numbered from 0. `Broken` is the image's own refusal with its place, `Refused` the set's.
 pub enum Judgement {
     Explains,
     FalseGoal(u32),
     BrokenConstraint(u32),
+    Broken(u8, usize),
     Refused(u8),
 }
 
@@ -62,7 +63,7 @@ pub fn judge(image: &[u8], set: u64) -> Judgement
     ensures { λ r. ⌜ Judges (now (image .entry)) set r ⌝ }
 {
     match book::read(image) {
-        Reading::Refused(n) => Judgement::Refused(n),
+        Reading::Refused(n, place) => Judgement::Broken(n, place),
         Reading::Accepted => judge_accepted(image, set),
     }
 }

@@ -19,10 +19,10 @@ use Rattle.searching.specs.Main.{listed}
 use Rattle.area.specs.Area as layout
 use Rattle.memory.specs.declared.run.Run.{Run}
 use Rattle.lister.specs.declared.Asked.{Asked}
-use Rattle.lister.specs.declared.Asked.the-variants.{Turned, Search}
+use Rattle.lister.specs.declared.Asked.the-variants.{Broken as BrokenBook, Turned, Search}
 use Rattle.lister.specs.declared.Listing.{Listing}
-use Rattle.lister.specs.declared.Listing.the-variants.{Listed, Refused}
-use Rattle.lister.specs.paper.Promise.{mostBudget, Result, turned, searched, byBook, resultOf, answerOf, setsOf, workOf, Explained, Lists}
+use Rattle.lister.specs.declared.Listing.the-variants.{Listed, Broken, Refused}
+use Rattle.lister.specs.paper.Promise.{mostBudget, Result, broken, turned, searched, byBook, resultOf, answerOf, setsOf, workOf, Explained, Lists}
 
 -- ---- a search's results
 
@@ -108,15 +108,16 @@ pub record Admitted (image : List ℕ) (budget room space : ℕ) : Type 0 where
   pub long : layout.end ≤ space
   pub low : budget ≤ mostBudget
 
--- what the tests before any search say: a refusal's number, or that it may begin
+-- what the tests before any search say: a refusal, or that it may begin
 abbrev pub Early : List ℕ → ℕ → ℕ → ℕ → Asked → Type 0
+Early image budget room space (BrokenBook n at) = resultOf image budget room space ≡ broken n at
 Early image budget room space (Turned n) = resultOf image budget room space ≡ turned n
 Early image budget room space Search = Admitted image budget room space
 
 module _ (image : List ℕ) (budget room space : ℕ) where
-  pub early-refused : (n : ℕ) → decode image ≡ refused n → Early image budget room space (Turned n)
+  pub early-refused : (n at : ℕ) → decode image ≡ refused n at → Early image budget room space (BrokenBook n at)
   unfolding resultOf
-  early-refused n e = ap (λ (d : Decoded). byBook d room space budget) e
+  early-refused n at e = ap (λ (d : Decoded). byBook d room space budget) e
 
   module _ (i : IsBook image) where
     on-book : resultOf image budget room space ≡ byBook (accepted (bookIn image)) room space budget
@@ -143,7 +144,17 @@ module _ (image : List ℕ) (budget room space : ℕ) where
       ∙ choose-false _ _ (le-ltb mostBudget budget (a .low))
 
 module _ (image : List ℕ) (budget : ℕ) (sets work : List ℕ) where
-  -- turned away
+  -- refused before any search: the image itself, or turned away
+  pub broken-lists : (n at : ℕ) (r : Asked) → Early image budget (length sets) (length work) r → r ≡ BrokenBook n at → Lists image budget sets work (Broken n at) sets work
+  broken-lists n at r early i =
+      let e : resultOf image budget (length sets) (length work) ≡ broken n at = subst (Early image budget (length sets) (length work)) i early in
+      record {
+        answer = ap answerOf (sym e);
+        sets = ap (λ (x : Result). setsOf x sets) (sym e);
+        work = ap (λ (x : Result). workOf x work) (sym e);
+        explanations = λ k m j. let z : _≡_ {A = ℕ} 0 1 = cc in absurd (omega arith);
+      }
+
   pub turned-lists : (n : ℕ) (r : Asked) → Early image budget (length sets) (length work) r → r ≡ Turned n → Lists image budget sets work (Refused n 0) sets work
   turned-lists n r early i =
       let e : resultOf image budget (length sets) (length work) ≡ turned n = subst (Early image budget (length sets) (length work)) i early in

@@ -8,16 +8,18 @@ ghost use lib.ListN.{length};
 ghost use Rattle.lister.specs.paper.Promise.{Lists};
 ghost use Rattle.lister.specs.PromiseLaws.{Admitted, Early};
 
-// The number of sets, or a refusal's number; then the nodes visited.
+// The number of sets, or a refusal's number, then the nodes visited; or the number of the image's own refusal, then its place.
 pub enum Listing {
     Listed(u32, u32),
+    Broken(u8, usize),
     Refused(u8, u32),
 }
 
 const MOST_BUDGET: u32 = 1000000;
 
-// What the tests before any search find: a refusal's number, or that the search may begin.
+// What the tests before any search find: a refusal as above, or that the search may begin.
 pub enum Asked {
+    Broken(u8, usize),
     Turned(u8),
     Search,
 }
@@ -26,7 +28,7 @@ pub fn before_search(image: &[u8], budget: u32, room: usize, space: usize) -> As
     ensures { λ r. ⌜ Early (now (image .entry)) budget room space r ⌝ }
 {
     match book::read(image) {
-        Reading::Refused(n) => Asked::Turned(n),
+        Reading::Refused(n, place) => Asked::Broken(n, place),
         Reading::Accepted => {
             if LONGEST < room {
                 return Asked::Turned(20);
@@ -47,6 +49,7 @@ pub fn list(image: &[u8], budget: u32, sets: &mut [u64], work: &mut [u32]) -> Li
     ensures { λ r. ⌜ Lists (now (image .entry)) budget (now (sets .entry)) (now (work .entry)) r (now (sets .exit)) (now (work .exit)) ⌝ }
 {
     match before_search(image, budget, sets.len(), work.len()) {
+        Asked::Broken(n, place) => Listing::Broken(n, place),
         Asked::Turned(n) => Listing::Refused(n, 0),
         Asked::Search => list_book(image, budget, sets, work),
     }

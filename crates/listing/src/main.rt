@@ -34,13 +34,18 @@ fn work_area() -> [u32; END]
     [0; END]
 }
 
-// The first line: a word with its number, and the nodes.
+// The first line: a word with its number, and the nodes; the line goes on.
 fn head(word: &[u8], number: u32, nodes: u32) {
     io::write_all(1, word);
     io::print_decimal(1, number as u64);
     io::write_all(1, b" nodes ");
     io::print_decimal(1, nodes as u64);
-    io::write_all(1, b"\n");
+}
+
+// Where the image is broken, behind its refusal.
+fn at_place(place: usize) {
+    io::write_all(1, b" at ");
+    io::print_decimal(1, place as u64);
 }
 
 fn member(abducible: u32) {
@@ -85,9 +90,18 @@ fn show(image: &[u8], sets: &mut [u64], work: &mut [u32]) {
     match engine::list(image, BUDGET, sets, work) {
         Listing::Listed(count, nodes) => {
             head(b"sets ", count, nodes);
+            io::write_all(1, b"\n");
             lines(sets, count as usize);
         }
-        Listing::Refused(number, nodes) => head(b"refused ", number as u32, nodes),
+        Listing::Broken(number, place) => {
+            head(b"refused ", number as u32, 0);
+            at_place(place);
+            io::write_all(1, b"\n");
+        }
+        Listing::Refused(number, nodes) => {
+            head(b"refused ", number as u32, nodes);
+            io::write_all(1, b"\n");
+        }
     }
 }
 

@@ -34,7 +34,7 @@ pub data Sounded : Type 0 where
   searched : Outcome → Sounded
 
 unfoldable pub soundedFrom : Decoded → ℕ → ℕ → Sounded
-soundedFrom (refused n) budget room = notRead n
+soundedFrom (refused n at) budget room = notRead n
 soundedFrom (accepted b) budget room = searched (searchEnd b room budget)
 
 pub record Sounding : Type 0 where

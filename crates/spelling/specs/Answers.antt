@@ -23,7 +23,7 @@ use Rattle.spelling.specs.Only.{Outcome, back, limit, head, loop, text-o
 
 -- what is written, where the image is accepted and the room long enough
 abbrev pub inRoom : ℕ → List ℕ → Decoded → Ending
-inRoom room s (refused n) = number n
+inRoom room s (refused n at) = number n
 inRoom room s (accepted b) = choose (leb (length s) room) (bytes s) (number 52)
 
 module _ (what : Document → List ℕ) where
@@ -47,9 +47,9 @@ module _ (what : Document → List ℕ) (text : List ℕ) (room : ℕ) where
 
   decoded : (d : Document) → Clear text d → (x : Decoded) → decode (imageOf d) ≡ x → Outcome (bookOf d) x → Ends what text room (inRoom room (what d) x)
   decoded d c x e back = fits d c e (leb (length (what d)) room) refl
-  decoded d c x e (limit h) = turned d 5 c e
-  decoded d c x e (head h) = turned d 7 c e
-  decoded d c x e (loop h) = turned d 9 c e
+  decoded d c x e (limit h) = turned d 5 _ c e
+  decoded d c x e (head h) = turned d 7 _ c e
+  decoded d c x e (loop h) = turned d 9 _ c e
 
   told : (d : Document) → Says text d → (q : Bool) → clashing d ≡ q → Ends what text room (choose q (number 51) (inRoom room (what d) (decode (imageOf d))))
   told d s true q = clashes d s q
@@ -88,11 +88,11 @@ module _ (what : Document → List ℕ) (text : List ℕ) (room : ℕ) where
       silent : (x : Ending) → Ends what text room x → number 50 ≡ x
       silent x (malformed h) = refl
       silent x (clashes d s c) = absurd (none d s)
-      silent x (turned d n c h) = absurd (none d (c .says))
+      silent x (turned d n at c h) = absurd (none d (c .says))
       silent x (short d c h k) = absurd (none d (c .says))
       silent x (whole d c h k) = absurd (none d (c .says))
   ends-ending e (clashes d s c) = sym (says-ending d s ∙ choose-true (number 51) (inRoom room (what d) (decode (imageOf d))) c)
-  ends-ending e (turned d n c h) = sym (clear-ending d c ∙ ap (inRoom room (what d)) h)
+  ends-ending e (turned d n at c h) = sym (clear-ending d c ∙ ap (inRoom room (what d)) h)
   ends-ending e (short d c h k) =
       sym (clear-ending d c ∙ ap (inRoom room (what d)) h ∙ choose-false (bytes (what d)) (number 52) (lt-leb (length (what d)) room k))
   ends-ending e (whole d c h k) =

@@ -136,17 +136,17 @@ module _ (what : Document → List ℕ) (text : List ℕ) (room : ℕ) where
   Means (bytes s) = (d : Document) × Clear text d × Acceptable d × (s ≡ what d) × (length s ≤ room)
   Means (number n) = Meant what text room n
 
-  turned-meant : (d : Document) (n : ℕ) → Clear text d → (x : Decoded) → x ≡ refused n → Outcome (bookOf d) x → Meant what text room n
-  turned-meant d n c x e back = let z : _≡_ {A = ℕ} 0 1 = cc in absurd (omega arith)
-  turned-meant d n c x e (limit h) = let z : 5 ≡ n = cc in subst (Meant what text room) z (over-limit d c h)
-  turned-meant d n c x e (head h) = let z : 7 ≡ n = cc in subst (Meant what text room) z (marked-head d c (marked-clause d (c .clear) h))
-  turned-meant d n c x e (loop h) = let z : 9 ≡ n = cc in subst (Meant what text room) z (on-a-loop d c (loops text d c h))
+  turned-meant : (d : Document) (n at : ℕ) → Clear text d → (x : Decoded) → x ≡ refused n at → Outcome (bookOf d) x → Meant what text room n
+  turned-meant d n at c x e back = let z : _≡_ {A = ℕ} 0 1 = cc in absurd (omega arith)
+  turned-meant d n at c x e (limit h) = let z : 5 ≡ n = cc in subst (Meant what text room) z (over-limit d c h)
+  turned-meant d n at c x e (head h) = let z : 7 ≡ n = cc in subst (Meant what text room) z (marked-head d c (marked-clause d (c .clear) h))
+  turned-meant d n at c x e (loop h) = let z : 9 ≡ n = cc in subst (Meant what text room) z (on-a-loop d c (loops text d c h))
 
   -- every ending means what it should
   pub ends-meant : (e : Ending) → Ends what text room e → Means e
   ends-meant e (malformed h) = no-document h
   ends-meant e (clashes d s h) = both-kinds d s (clashing-clash d .0 h)
-  ends-meant e (turned d n c h) = turned-meant d n c (decode (imageOf d)) h (text-only text d (c .says))
+  ends-meant e (turned d n at c h) = turned-meant d n at c (decode (imageOf d)) h (text-only text d (c .says))
   ends-meant e (short d c h k) = too-short d c (accepted-exactly text d c .0 h) k
   ends-meant e (whole d c h k) = (d, c, accepted-exactly text d c .0 h, refl, k)
 

@@ -14,7 +14,7 @@ use Rattle.image.specs.paper.Walk.{Step, fine, fieldAt, fieldValues}
 use Rattle.image.specs.paper.Front.{version, atomsAt}
 use Rattle.image.specs.paper.Faults.{limits}
 use Rattle.image.specs.paper.Loops.{loopFree}
-use Rattle.image.specs.paper.Decode.{Decoded, accepted, refused, inOrder, decode, whole, lengthField}
+use Rattle.image.specs.paper.Decode.{loopPlace, Decoded, accepted, refused, inOrder, decode, whole, lengthField}
 use Rattle.image.specs.paper.Spell.{two, encode, words as fields}
 use Rattle.image.specs.Finds.{Named, AlternativeFine, ConstraintFine}
 use Rattle.image.specs.Written.{fine-front}
@@ -75,9 +75,9 @@ book-told d f =
 
 pub data Outcome (b : Book) : Decoded → Type 0 where
   back : Outcome b (accepted b)
-  limit : (Few limits b → ⊥) → Outcome b (refused 5)
-  head : MarkedHead b → Outcome b (refused 7)
-  loop : loopFree b ≡ false → Outcome b (refused 9)
+  limit : (Few limits b → ⊥) → {at : ℕ} → Outcome b (refused 5 at)
+  head : MarkedHead b → {at : ℕ} → Outcome b (refused 7 at)
+  loop : loopFree b ≡ false → Outcome b (refused 9 (loopPlace b))
 
 pub decode-only : (b : Book) → Told b → Every Field (fields b) → 2 * length (fields b) < fieldValues * fieldValues → Outcome b (decode (encode b))
 unfolding decode inOrder encode lengthField fieldAt
@@ -86,14 +86,14 @@ decode-only b t h few =
     let pre : List ℕ = version ∷ two (n / fieldValues) ++ two (n % fieldValues) in
     let long : length (flat two (fields b)) ≡ n = length-two (fields b) in
     let front = fine-front (encode b) (record { long = omega arith; version = refl; size = omega arith }) in
-    subst (λ f. Outcome b (inOrder f (whole (encode b) limits atomsAt))) (sym front)
+    subst (λ f. Outcome b (inOrder (encode b) f (whole (encode b) limits atomsAt))) (sym front)
     (go (whole (encode b) limits atomsAt) (fair-whole (encode b) limits b t (stands-two pre (fields b) h) (omega arith)))
   where
-    free : (q : Bool) → loopFree b ≡ q → Outcome b (choose q (accepted b) (refused 9))
+    free : (q : Bool) → loopFree b ≡ q → Outcome b (choose q (accepted b) (refused 9 (loopPlace b)))
     free true e = back
     free false e = loop e
 
-    go : {next : ℕ} (st : Step Book) → Fair (Few limits b) (MarkedHead b) b next st → Outcome b (inOrder fine st)
+    go : {next : ℕ} (st : Step Book) → Fair (Few limits b) (MarkedHead b) b next st → Outcome b (inOrder (encode b) fine st)
     go st same = free (loopFree b) refl
     go st (five h) = limit h
     go st (seven h) = head h

@@ -140,10 +140,10 @@ module _ {text codes entries numbers : List ℕ} {words names marked goal : ℕ}
       lent : Lent entries image
       lent = (omega (arith, r, drafted-fits, ap length e, length-append drawn (drop (length drawn) old), length-drop (length drawn) old), l)
 
-      pub drafted-turned : (m : ℕ) → Reads (take size image) (Refused m) → Made text entries image m 0 0
-      drafted-turned m q =
-          let at : Reads (imageOf (f .d)) (Refused m) = subst (λ (l : List ℕ). Reads l (Refused m)) drafted-front q in
-          made-refused text m lent (refused-some text (f .d) (f .clear) m at) (λ what room. turned-ends text (f .d) (f .clear) what room m at)
+      pub drafted-turned : (m place : ℕ) → Reads (take size image) (Refused m place) → Made text entries image m 0 0
+      drafted-turned m place q =
+          let at : Reads (imageOf (f .d)) (Refused m place) = subst (λ (l : List ℕ). Reads l (Refused m place)) drafted-front q in
+          made-refused text m lent (refused-some text (f .d) (f .clear) m place at) (λ what room. turned-ends text (f .d) (f .clear) what room m place at)
 
       pub drafted-accepted : Reads (take size image) Accepted → names ≤ longestText → Made text entries image 0 size names
       drafted-accepted q few =

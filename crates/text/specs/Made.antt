@@ -2,7 +2,7 @@
 -- Assumes nothing.
 use Prim.Native.Nat.{ℕ, suc, _≤_, _<_}
 use native.Mathlib.Omega.{arith}
-use mathlib.Core.Path.{_≡_, refl, sym, ap, _∙_, subst}
+use mathlib.Core.Path.{_≡_, refl, sym, ap, ap₂, _∙_, subst}
 use mathlib.Core.Bool.{Bool, true, false}
 use mathlib.Core.List.{List, []}
 use lib.ListN.{length, take}
@@ -91,17 +91,20 @@ module _ (text : List ℕ) (d : Document) (s : Says text d) (m : scan false (wor
 -- ---- 5, 7, 9, or an image that is accepted
 
 module _ (text : List ℕ) (d : Document) (c : Clear text d) where
-  pub turned-ends : (what : Document → List ℕ) (room n : ℕ) → Reads (imageOf d) (Refused n) → Ends what text room (number n)
-  turned-ends what room n r = go (decode (imageOf d)) refl (r .answer)
+  pub turned-ends : (what : Document → List ℕ) (room n at : ℕ) → Reads (imageOf d) (Refused n at) → Ends what text room (number n)
+  turned-ends what room n at r = go (decode (imageOf d)) refl (r .answer)
     where
-      go : (x : Decoded) → decode (imageOf d) ≡ x → Refused n ≡ readingOf x → Ends what text room (number n)
+      go : (x : Decoded) → decode (imageOf d) ≡ x → Refused n at ≡ readingOf x → Ends what text room (number n)
       go (accepted b) e q = let z : _≡_ {A = ℕ} 0 1 = cc in absurd (omega arith)
-      go (refused m) e q = let z : n ≡ m = cc in turned d n c (e ∙ ap refused (sym z))
+      go (refused m p) e q =
+          let number : m ≡ n = cc in
+          let place : p ≡ at = cc in
+          turned d n at c (e ∙ ap₂ refused number place)
 
-  pub refused-some : (n : ℕ) → Reads (imageOf d) (Refused n) → n ≡ 0 → ⊥
-  refused-some n r = go (decode (imageOf d)) (r .answer) (text-only text d (c .says))
+  pub refused-some : (n at : ℕ) → Reads (imageOf d) (Refused n at) → n ≡ 0 → ⊥
+  refused-some n at r = go (decode (imageOf d)) (r .answer) (text-only text d (c .says))
     where
-      go : (x : Decoded) → Refused n ≡ readingOf x → Outcome (bookOf d) x → n ≡ 0 → ⊥
+      go : (x : Decoded) → Refused n at ≡ readingOf x → Outcome (bookOf d) x → n ≡ 0 → ⊥
       go x q back z = let y : _≡_ {A = ℕ} 0 1 = cc in absurd (omega arith)
       go x q (limit h) z = let y : n ≡ 5 = cc in absurd (omega arith)
       go x q (head h) z = let y : n ≡ 7 = cc in absurd (omega arith)

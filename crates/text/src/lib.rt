@@ -72,7 +72,7 @@ fn make(text: &[u8], entries: &mut [u16; LONGEST_TEXT], image: &mut [u8]) -> Dra
     give_numbers(entries, names, marked, &mut numbers);
     let size = write_image(&codes[..n], goal - 1, &numbers, names, marked, image);
     match book::read(&image[..size]) {
-        Reading::Refused(number) => refused(number),
+        Reading::Refused(number, _) => refused(number),
         Reading::Accepted => Draft {
             refusal: 0,
             size,

@@ -54,8 +54,8 @@ pub fn take_clauses(image: &[u8], start: usize, count: u32, atoms: u32, abducibl
     let mut i: u32 = 0;
     while i < count {
         match take_clause(image, at, atoms, abducibles, sum) {
-            Taken::Fault(n, place) => {
-                return Taken::Fault(n, place);
+            Taken::Fault(n, inside) => {
+                return Taken::Fault(n, inside);
             }
             Taken::Found(body, next) => {
                 sum += body;
@@ -108,7 +108,7 @@ pub fn take_inside(image: &[u8], at: usize, end: usize, atoms: u32, sum: u32) ->
     match fields::take_conditions(image, at, end, sum) {
         Taken::Fault(n, place) => Taken::Fault(n, place),
         Taken::Found(count, next) => match take_literals(image, next, count, atoms) {
-            Taken::Fault(n, place) => Taken::Fault(n, place),
+            Taken::Fault(n, literal) => Taken::Fault(n, literal),
             Taken::Found(_, ways) => take_ways(image, ways, end, atoms, sum + count),
         },
     }

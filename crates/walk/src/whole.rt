@@ -13,7 +13,7 @@ ghost use Rattle.base.specs.paper.Lists.{sum};
 ghost use Rattle.image.specs.paper.Book.{bodyCount, literalCount};
 ghost use Rattle.image.specs.paper.Walk.{running, times};
 ghost use Rattle.image.specs.paper.Faults.{limits};
-ghost use Rattle.image.specs.paper.Decode.{literal, clause, constraint, counted, clausesAndConstraints, book, whole, wrongFront};
+ghost use Rattle.image.specs.paper.Decode.{literal, clause, constraint, counted, clausesAndConstraints, book, whole, wrongFront, frontPlace};
 ghost use Rattle.faults.specs.Taking.{taken, seen, finding};
 ghost use Rattle.image.specs.paper.Front.{atomsAt};
 
@@ -109,4 +109,17 @@ pub fn wrong_front(image: &[u8]) -> u8
         return 3;
     }
     0
+}
+
+// Where such a fault stands.
+pub fn front_place(image: &[u8], number: u8) -> usize
+    ensures { λ r. ⌜ r ≡ frontPlace (now (image .entry)) number ⌝ }
+{
+    if number == 1 {
+        return image.len();
+    }
+    if number == 2 {
+        return front::VERSION_AT;
+    }
+    front::LENGTH
 }

@@ -1,4 +1,4 @@
--- The reader's promise: the answer is `accepted`, or the number under which paper 01, 4 refuses the image.
+-- The reader's promise: the answer is `accepted`, or the number under which paper 01, 4 refuses the image, with its place.
 -- Assumes nothing.
 use Prim.Native.Nat.{ℕ}
 use mathlib.Core.Path.{_≡_}
@@ -10,7 +10,7 @@ use Rattle.book.specs.declared.Reading.the-variants.{Accepted, Refused}
 -- each case of the answer, by the paper's number
 abbrev pub readingOf : Decoded → Reading
 readingOf (accepted b) = Accepted
-readingOf (refused n) = Refused n
+readingOf (refused n at) = Refused n at
 
 -- what `read` promises of its answer r to an image s
 pub record Reads (s : List ℕ) (r : Reading) : Type 0 where

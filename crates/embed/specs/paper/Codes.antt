@@ -1,21 +1,24 @@
 -- The answers as one number each, for callers in C. Of judge, list and verdict each kind of answer has 2^56 codes of its own, and among
--- them a count, or a refusal's number that comes with nodes, stands above the 2^32 codes of the nodes; a refusal of join, text or names
--- stands above their counts in the same way.
+-- them a count, or a refusal's number that comes with nodes, stands above the 2^32 codes of the nodes; the number of an image's own refusal
+-- stands above its place, and a refusal of join, text or names above their counts, in the same way.
 --
 --   call      answer               code
 --   read      Accepted             0
---             Refused n            n
+--             Refused n p          2^32 * n + p
 --   judge     Explains             0
 --             FalseGoal p          2^56 + p
 --             BrokenConstraint p   2 * 2^56 + p
 --             Refused n            3 * 2^56 + n
+--             Broken n p           4 * 2^56 + 2^32 * n + p
 --   list      Listed k n           2^32 * k + n
 --             Refused m n          2^56 + 2^32 * m + n
+--             Broken n p           2 * 2^56 + 2^32 * n + p
 --   verdict   Unexplained n        n
 --             Needed n             2^56 + n
 --             Possible n           2 * 2^56 + n
 --             RuledOut n           3 * 2^56 + n
 --             Refused m n          4 * 2^56 + 2^32 * m + n
+--             Broken n p           5 * 2^56 + 2^32 * n + p
 --   join      Count k              k
 --             Refused n            2^32 * n
 --   text,     Written n            n
@@ -44,7 +47,7 @@ use Rattle.image.specs.declared.Writing.the-variants as writing
 use Rattle.spelling.specs.paper.Document.{Document}
 use Rattle.spelling.specs.paper.Answer.{Writes}
 
--- how many codes there are for the nodes, or for a count that comes without nodes
+-- how many codes there are for the nodes, for a count that comes without nodes, or for a place
 abbrev pub nodeCodes : ℕ
 nodeCodes = 2 ^ 32
 
@@ -62,8 +65,14 @@ brokenConstraint = 2 * kindCodes
 abbrev pub judgeRefused : ℕ
 judgeRefused = 3 * kindCodes
 
+abbrev pub judgeBroken : ℕ
+judgeBroken = 4 * kindCodes
+
 abbrev pub listRefused : ℕ
 listRefused = kindCodes
+
+abbrev pub listBroken : ℕ
+listBroken = 2 * kindCodes
 
 abbrev pub needed : ℕ
 needed = kindCodes
@@ -77,11 +86,18 @@ ruledOut = 3 * kindCodes
 abbrev pub verdictRefused : ℕ
 verdictRefused = 4 * kindCodes
 
+abbrev pub verdictBroken : ℕ
+verdictBroken = 5 * kindCodes
+
+-- the image's own refusal: its number above its place
+abbrev pub brokenCode : ℕ → ℕ → ℕ
+brokenCode n at = nodeCodes * n + at
+
 -- ---- the codes, and what each call for C promises: r is the code of an answer that meets the promise of the call behind it
 
 abbrev pub readingCode : Reading → ℕ
 readingCode reading.Accepted = 0
-readingCode (reading.Refused n) = n
+readingCode (reading.Refused n at) = brokenCode n at
 
 pub record ReadingCode (s : List ℕ) (r : ℕ) : Type 0 where
   pub answer : Reading
@@ -92,6 +108,7 @@ abbrev pub judgementCode : Judgement → ℕ
 judgementCode judgement.Explains = 0
 judgementCode (judgement.FalseGoal p) = falseGoal + p
 judgementCode (judgement.BrokenConstraint p) = brokenConstraint + p
+judgementCode (judgement.Broken n at) = judgeBroken + brokenCode n at
 judgementCode (judgement.Refused n) = judgeRefused + n
 
 pub record JudgementCode (s : List ℕ) (d : ℕ) (r : ℕ) : Type 0 where
@@ -101,6 +118,7 @@ pub record JudgementCode (s : List ℕ) (d : ℕ) (r : ℕ) : Type 0 where
 
 abbrev pub listingCode : Listing → ℕ
 listingCode (listing.Listed k n) = nodeCodes * k + n
+listingCode (listing.Broken n at) = listBroken + brokenCode n at
 listingCode (listing.Refused m n) = listRefused + nodeCodes * m + n
 
 pub record ListingCode (s : List ℕ) (budget : ℕ) (list area : List ℕ) (r : ℕ) (list′ area′ : List ℕ) : Type 0 where
@@ -113,6 +131,7 @@ verdictCode (verdict.Unexplained n) = n
 verdictCode (verdict.Needed n) = needed + n
 verdictCode (verdict.Possible n) = possible + n
 verdictCode (verdict.RuledOut n) = ruledOut + n
+verdictCode (verdict.Broken n at) = verdictBroken + brokenCode n at
 verdictCode (verdict.Refused m n) = verdictRefused + nodeCodes * m + n
 
 pub record VerdictCode (s : List ℕ) (h budget : ℕ) (list area : List ℕ) (r : ℕ) (list′ area′ : List ℕ) : Type 0 where

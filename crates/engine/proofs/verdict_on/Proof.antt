@@ -8,7 +8,7 @@ use Rattle.image.specs.Shown.{shown, shown-front}
 use Rattle.image.specs.Accepted.{bookIn}
 use Rattle.lister.specs.PromiseLaws.{Admitted, may-search}
 use Rattle.engine.specs.paper.Verdict.{Verdicts}
-use Rattle.engine.specs.VerdictLaws.{verdict-early, verdict-unnamed, by-listing, hypothesis-small, lists-count, verdict-refused, verdict-listed}
+use Rattle.engine.specs.VerdictLaws.{verdict-broken, verdict-early, verdict-unnamed, by-listing, hypothesis-small, lists-count, verdict-refused, verdict-at-fault, verdict-listed}
 use Rattle.engine.specs.declared.Verdict.{Verdict}
 use borrow.Author.Needs.{needs}
 use Rattle.engine.proofs.verdict_on.Statement.{statement}
@@ -45,16 +45,25 @@ decide-requires c κs =
     )
 
 returns-2 : tie.Need-returns-2
-returns-2 c = verdict-early _ _ _ _ _ _ _ (c .before .before .before .before-search .ensures) (c .before .number .given .1)
+returns-2 c = verdict-broken _ _ _ _ _ _ _ _ (c .before .before .before .before-search .ensures) (c .before .number .given .1)
 
 returns-3 : tie.Need-returns-3
-returns-3 c =
-    let m = c .before .before .before .before .before .before .before in
-    verdict-refused _ _ _ _ _ _ _ (by-listing _ _ _ _ _ (admitted (m .before .before .before .before .before)) (known (m .before .before)))
-    _ (m .list-book .ensures) _ _ (c .before .number2 .given .1)
+returns-3 c = verdict-early _ _ _ _ _ _ _ (c .before .before .before .before-search .ensures) (c .before .number2 .given .1)
 
 returns-4 : tie.Need-returns-4
 returns-4 c =
+    let m = c .before .before .before .before .before .before .before in
+    verdict-at-fault _ _ _ _ _ _ _ (by-listing _ _ _ _ _ (admitted (m .before .before .before .before .before)) (known (m .before .before)))
+    _ (m .list-book .ensures) _ _ (c .before .number3 .given .1)
+
+returns-5 : tie.Need-returns-5
+returns-5 c =
+    let m = c .before .before .before .before .before .before .before in
+    verdict-refused _ _ _ _ _ _ _ (by-listing _ _ _ _ _ (admitted (m .before .before .before .before .before)) (known (m .before .before)))
+    _ (m .list-book .ensures) _ _ (c .before .number4 .given .1)
+
+returns-6 : tie.Need-returns-6
+returns-6 c =
     let m = c .before .before .before .before .before .before .before .before .before in
     let a = m .before .before .before .before .before .before .before .before .before .before .before .args in
     subst
@@ -70,16 +79,22 @@ verdict-on-spec =
     (λ c κs. search needs)
     (λ c. search needs)
     (λ c. search needs)
+    (λ c. search needs)
     abducibles-requires
     returns
     list-book-requires
     (λ c. search needs)
     (λ c. search needs)
+    (λ c. search needs)
     decide-requires
     returns-2
-    (λ c. search needs)
-    (λ c. search needs)
     returns-3
     (λ c. search needs)
     (λ c. search needs)
-    returns-4)
+    returns-4
+    (λ c. search needs)
+    (λ c. search needs)
+    returns-5
+    (λ c. search needs)
+    (λ c. search needs)
+    returns-6)

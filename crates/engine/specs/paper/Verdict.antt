@@ -15,17 +15,18 @@ use Rattle.image.specs.paper.Decode.{Decoded, accepted, refused, decode}
 use Rattle.meaning.specs.paper.Meaning.{explains, Smallest}
 use Rattle.searching.specs.paper.Rules.{root, finished, used-up, no-room}
 use Rattle.searching.specs.paper.Tree.{size}
-use Rattle.lister.specs.paper.Promise.{Result, turned, searched, resultOf, setsOf, workOf}
+use Rattle.lister.specs.paper.Promise.{Result, broken, turned, searched, resultOf, setsOf, workOf}
 use Rattle.engine.specs.declared.Verdict.{Verdict}
-use Rattle.engine.specs.declared.Verdict.the-variants.{Unexplained, Needed, Possible, RuledOut, Refused}
+use Rattle.engine.specs.declared.Verdict.the-variants.{Unexplained, Needed, Possible, RuledOut, Broken, Refused}
 
 -- the hypothesis is an abducible of the book
 abbrev pub named : Decoded → ℕ → Bool
 named (accepted b) h = ltb h (b .abducibles)
-named (refused n) h = true
+named (refused n at) h = true
 
 -- 23, "a member of the judged set, or the hypothesis, is not below B": behind the lister's own refusals, and before any search
 abbrev pub asked : Bool → Result → Result
+asked t (broken n at) = broken n at
 asked t (turned n) = turned n
 asked true (searched o) = searched o
 asked false (searched o) = turned 23
@@ -40,8 +41,9 @@ decided h [] n = Unexplained n
 decided h (s ∷ l) n =
     choose (all (λ (d : ℕ). has d h) (s ∷ l)) (Needed n) (choose (any (λ (d : ℕ). has d h) (s ∷ l)) (Possible n) (RuledOut n))
 
--- the answer: a refusal's number with its nodes, or the verdict
+-- the answer: a refusal's number with its place or its nodes, or the verdict
 abbrev pub verdictOf : ℕ → Result → Verdict
+verdictOf h (broken n at) = Broken n at
 verdictOf h (turned n) = Refused n 0
 verdictOf h (searched (finished l n)) = decided h l n
 verdictOf h (searched (used-up n)) = Refused 30 n
@@ -67,6 +69,7 @@ Says b h (Unexplained n) = Explainable b → ⊥
 Says b h (Needed n) = InSome b h × InEvery b h
 Says b h (Possible n) = InSome b h × (InEvery b h → ⊥)
 Says b h (RuledOut n) = ((d : ℕ) × Smallest b d) × (InSome b h → ⊥)
+Says b h (Broken m at) = ⊥
 Says b h (Refused m n) = ⊥
 
 -- the nodes that an answer tells
@@ -75,6 +78,7 @@ nodesOf (Unexplained n) = n
 nodesOf (Needed n) = n
 nodesOf (Possible n) = n
 nodesOf (RuledOut n) = n
+nodesOf (Broken m at) = 0
 nodesOf (Refused m n) = n
 
 -- the verdict is right of the image's book, and its nodes are the size of the search tree
@@ -84,6 +88,15 @@ pub record Meant (image : List ℕ) (h : ℕ) (r : Verdict) : Type 0 where
   pub says : Says b h r
   pub nodes : nodesOf r ≡ size b (root b)
 
+-- the answer is a refusal
+abbrev pub Refusal : Verdict → Type 0
+Refusal (Unexplained n) = ⊥
+Refusal (Needed n) = ⊥
+Refusal (Possible n) = ⊥
+Refusal (RuledOut n) = ⊥
+Refusal (Broken m at) = Unit {0}
+Refusal (Refused m n) = Unit {0}
+
 -- ---- the promise
 
 -- the answer, and list and work area as the listing leaves them
@@ -92,4 +105,4 @@ pub record Verdicts (image : List ℕ) (h budget : ℕ) (list area : List ℕ) (
   pub sets : list′ ≡ setsOf (verdictResult image h budget (length list) (length area)) list
   pub work : area′ ≡ workOf (verdictResult image h budget (length list) (length area)) area
   -- if it is no refusal, the verdict is right by the meaning, and its nodes are the size of the search tree
-  pub meaning : ((m n : ℕ) → r ≡ Refused m n → ⊥) → Meant image h r
+  pub meaning : (Refusal r → ⊥) → Meant image h r

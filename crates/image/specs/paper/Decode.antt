@@ -1,15 +1,18 @@
--- Paper 01, 3 and 4: what an image says, or the number under which it is refused. Words in quotation marks are theirs.
+-- Paper 01, 3 and 4: what an image says, or the number under which it is refused; and paper 02, A2: the place of the refusal. Words in
+-- quotation marks are theirs.
 -- Assumes nothing.
 use Prim.Native.Nat.{ℕ, zero, suc, _+_, _-_, _*_, _/_, _%_}
-use mathlib.Core.List.{List, [], _∷_}
+use mathlib.Core.List.{List, [], _∷_, _++_}
 use lib.ListN.{length, getD}
 use lib.Dec.{leb, eqb}
 use Rattle.base.specs.paper.Bools.{choose}
+use Rattle.base.specs.paper.Lists.{flat}
 use Rattle.image.specs.paper.Front.{version, versionAt, lengthAt, atomsAt}
 use Rattle.image.specs.paper.Book.{Lit, Clause, Constraint, Book, bodyCount, literalCount}
 use Rattle.image.specs.paper.Walk.{Step, found, fault, Walk, give, ahead, behind, Finding, fine, wrong, unless, fieldValues, fieldAt, field, running, times, before, _>>=_, _>>_}
 use Rattle.image.specs.paper.Faults.{Limits, limits, wrongAtoms, wrongAbducibles, wrongCount, wrongLit, wrongHead, wrongSize, wrongClause, bodyOf, wrongConditions, wrongAlternative}
-use Rattle.image.specs.paper.Loops.{loopFree}
+use Rattle.image.specs.paper.Loops.{loopFree, beforeLoop}
+use Rattle.image.specs.paper.Spell.{ofAlternative, ofClause}
 
 -- "A literal is written as twice its atom's number, and one more if it is negated."
 abbrev pub litOf : ℕ → Lit
@@ -107,16 +110,28 @@ module _ (image : List ℕ) where
       (unless (eqb (getD image versionAt 0) version) 2
       (unless (eqb lengthField (length image - atomsAt)) 3 fine))
 
+  -- A2.1: of 1 "the image's length", of 2 0, of 3 1
+  unfoldable pub frontPlace : ℕ → ℕ
+  frontPlace n = choose (eqb n 1) (length image) (choose (eqb n 2) versionAt lengthAt)
+
+-- the place of a clause's record, by the clauses before it: behind A, B, the goal, the number of clauses and their records
+unfoldable pub recordPlace : Book → List Clause → ℕ
+recordPlace b cs = atomsAt + 2 * length (b .atoms ∷ b .abducibles ∷ (ofAlternative (b .goal) ++ (length (b .clauses) ∷ flat ofClause cs)))
+
+-- of 9 "where the first clause with a head that depends on itself has its record length"
+unfoldable pub loopPlace : Book → ℕ
+loopPlace b = recordPlace b (beforeLoop b (b .clauses))
+
 pub data Decoded : Type 0 where
   accepted : Book → Decoded
-  refused : ℕ → Decoded
+  refused : (number place : ℕ) → Decoded
 
--- "Where none of them applies, the image is walked once from its front, and the first fault that is met is answered. An image without a
--- fault in the walk is then tested for 9."
-unfoldable pub inOrder : Finding → Step Book → Decoded
-inOrder (wrong n) walked = refused n
-inOrder fine (fault n at) = refused n
-inOrder fine (found b at) = choose (loopFree b) (accepted b) (refused 9)
+-- "Where none of them applies, the image is walked once from its front, and the first fault that is met is answered", at its place. "An
+-- image without a fault in the walk is then tested for 9."
+unfoldable pub inOrder : List ℕ → Finding → Step Book → Decoded
+inOrder s (wrong n) walked = refused n (frontPlace s n)
+inOrder s fine (fault n at) = refused n at
+inOrder s fine (found b at) = choose (loopFree b) (accepted b) (refused 9 (loopPlace b))
 
 unfoldable pub decode : List ℕ → Decoded
-decode s = inOrder (wrongFront s) (whole s limits atomsAt)
+decode s = inOrder s (wrongFront s) (whole s limits atomsAt)

@@ -1,12 +1,14 @@
 -- Refusal 9, paper 01, 4.8: "An atom depends on the atoms that stand in the bodies of its clauses, with or without negation, on those that
 -- these depend on, and so on."
--- `Depends` says it as a relation; `loopFree` tests it by rounds. That they say the same is `LoopLaws`'.
+-- `Depends` says it as a relation; `loopFree` tests it by rounds, and `onLoop` of one atom. That they say the same is `LoopLaws`' and
+-- `Reached`'s.
 -- Assumes nothing.
 use Prim.Native.Nat.{ℕ, zero, suc}
 use mathlib.Core.Path.{_≡_}
-use mathlib.Core.Bool.{Bool, true, not, _&&_}
-use mathlib.Core.List.{List}
+use mathlib.Core.Bool.{Bool, true, false, not, _&&_, _||_}
+use mathlib.Core.List.{List, [], _∷_}
 use lib.Dec.{eqb}
+use Rattle.base.specs.paper.Bools.{choose}
 use Rattle.base.specs.paper.Lists.{_∈_, all, any, below}
 use Rattle.image.specs.paper.Book.{Lit, Clause, Book}
 
@@ -27,3 +29,18 @@ quiet cs atoms n = all (λ (p : ℕ). not (pending cs n p)) (below atoms)
 -- No loop: as many rounds as there are atoms leave none pending.
 unfoldable pub loopFree : Book → Bool
 loopFree b = quiet (b .clauses) (b .atoms) (b .atoms)
+
+-- q is reached from p in at most n steps, each from a head to an atom of its body
+unfoldable pub reached : List Clause → ℕ → ℕ → ℕ → Bool
+reached cs zero p q = false
+reached cs (suc n) p q =
+    any (λ (c : Clause). eqb (c .head) p && any (λ (l : Lit). eqb (l .atom) q || reached cs n (l .atom) q) (c .body)) cs
+
+-- Does the atom depend on itself? As many steps as there are atoms are enough.
+unfoldable pub onLoop : Book → ℕ → Bool
+onLoop b p = reached (b .clauses) (b .atoms) p p
+
+-- of these clauses, those before "the first one, in the image's order, whose head is on a loop" (paper 02, A2.4)
+unfoldable pub beforeLoop : Book → List Clause → List Clause
+beforeLoop b [] = []
+beforeLoop b (c ∷ cs) = choose (onLoop b (c .head)) [] (c ∷ beforeLoop b cs)

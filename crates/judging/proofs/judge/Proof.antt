@@ -9,7 +9,7 @@ judge-accepted-requires : tie.Need-judge-accepted-requires
 judge-accepted-requires c κs = read-book _ _ (c .before .before .read .ensures) (c .enum-told .given .1)
 
 returns : tie.Need-returns
-returns c = refused-judged _ _ _ (read-refused _ _ _ (c .before .before .before .read .ensures) (c .before .n .given .1))
+returns c = refused-judged _ _ _ _ (read-refused _ _ _ _ (c .before .before .before .read .ensures) (c .before .n .given .1))
 
 returns-2 : tie.Need-returns-2
 returns-2 c = accepted-judged _ _ _ (read-book _ _ (c .before .before .before .read .ensures) (c .before .enum-told .given .1)) (c .judge-accepted .ensures)

@@ -13,7 +13,7 @@ use Rattle.image.specs.paper.Decode.{Decoded, accepted, refused, decode}
 use Rattle.meaning.specs.paper.Meaning.{true-in, all-true, value, holds, explains, Members}
 use Rattle.judging.specs.paper.Failing.{First, firstFailing}
 use Rattle.judging.specs.declared.Judgement.{Judgement}
-use Rattle.judging.specs.declared.Judgement.the-variants.{Explains, FalseGoal, BrokenConstraint, Refused}
+use Rattle.judging.specs.declared.Judgement.the-variants.{Explains, FalseGoal, BrokenConstraint, Broken, Refused}
 
 -- ---- the answer
 
@@ -36,7 +36,7 @@ judgedBook b d =
 
 abbrev pub judgedOf : Decoded → ℕ → Judgement
 judgedOf (accepted b) d = judgedBook b d
-judgedOf (refused n) d = Refused n
+judgedOf (refused n at) d = Broken n at
 
 unfoldable pub judged : List ℕ → ℕ → Judgement
 judged s d = judgedOf (decode s) d
@@ -52,8 +52,9 @@ abbrev pub Means : Book → ℕ → Judgement → Type 0
 Means b d Explains = Members b d × (explains b d ≡ true)
 Means b d (FalseGoal i) = Members b d × First (true-in (value b d)) (b .goal) i
 Means b d (BrokenConstraint i) = Members b d × (all-true (value b d) (b .goal) ≡ true) × First (holds (value b d)) (b .constraints) i
+Means b d (Broken n at) = ⊥
 Means b d (Refused n) = (n ≡ 23) × (Members b d → ⊥)
 
 -- what each answer says of an image and a set
 abbrev pub Said : List ℕ → ℕ → Judgement → Type 0
-Said s d r = ((n : ℕ) × (decode s ≡ refused n) × (r ≡ Refused n)) ⊎ ((b : Book) × (decode s ≡ accepted b) × Means b d r)
+Said s d r = ((n : ℕ) × (at : ℕ) × (decode s ≡ refused n at) × (r ≡ Broken n at)) ⊎ ((b : Book) × (decode s ≡ accepted b) × Means b d r)

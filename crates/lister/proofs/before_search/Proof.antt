@@ -20,7 +20,7 @@ returns-3 : tie.Need-returns-3
 returns-3 c = early-budget _ _ _ _ (book (c .before .before .before)) (c .before .before .if1 .left) (c .before .if2 .left) (c .if3 .taken)
 
 returns-4 : tie.Need-returns-4
-returns-4 c = early-refused _ _ _ _ _ (read-refused _ _ _ (c .before .before .before .read .ensures) (c .before .n .given .1))
+returns-4 c = early-refused _ _ _ _ _ _ (read-refused _ _ _ _ (c .before .before .before .read .ensures) (c .before .n .given .1))
 
 returns-5 : tie.Need-returns-5
 returns-5 c = record {

@@ -42,7 +42,7 @@ pub record Clear (text : List ℕ) (d : Document) : Type 0 where
 pub data Ends (what : Document → List ℕ) (text : List ℕ) (room : ℕ) : Ending → Type 0 where
   malformed : ((d : Document) → Says text d → ⊥) → Ends what text room (number 50)
   clashes : (d : Document) → Says text d → clashing d ≡ true → Ends what text room (number 51)
-  turned : (d : Document) (n : ℕ) → Clear text d → decode (imageOf d) ≡ refused n → Ends what text room (number n)
+  turned : (d : Document) (n at : ℕ) → Clear text d → decode (imageOf d) ≡ refused n at → Ends what text room (number n)
   short : (d : Document) → Clear text d → decode (imageOf d) ≡ accepted (bookOf d) → room < length (what d) → Ends what text room (number 52)
   whole : (d : Document) → Clear text d → decode (imageOf d) ≡ accepted (bookOf d) → length (what d) ≤ room → Ends what text room (bytes (what d))
 

@@ -67,7 +67,7 @@ slice-aggregate-read c =
 returns-4 : tie.Need-returns-4
 returns-4 c =
     let f = drafted (c .before .before .before .before .before .before .before .before .before .before .before .before .before .before .before .before .before .before .before .before .before .before .before .before .if1 .left) (c .before .before .before .before .before .before .before .before .before .before .before .before .before .before .before .before .before .before .before .take-words .ensures) (c .before .before .before .before .before .before .before .before .before .before .before .before .before .before .before .before .before .goal-place .ensures) (c .before .before .before .before .before .before .before .before .before .before .before .before .before .before .before .before .if2 .left) (c .before .before .before .before .before .before .before .before .before .before .before .before .before .before .before .if3 .left) (c .before .before .before .before .before .before .before .before .before .before .before .before .give-numbers .ensures) in
-    made-told (c .refused4 .ensures) (drafted-turned f _ (c .before .before .before .before .before .before .before .before .write-image .ensures .0) (c .before .before .before .before .before .before .before .before .write-image .ensures .1) (c .before .before .before .before .before .before .before .before .before .before .before .before .before .before .before .before .before .before .before .before .before .before .before .before .before .before .before .pre .1) (c .before .before .before .before .before .before .before .before .before .before .before .before .before .before .before .before .before .before .before .take-words .ensures .long .1) _ (subst (Reads _) (c .before .before .number .given .1) (c .before .before .before .before .read .ensures)))
+    made-told (c .refused4 .ensures) (drafted-turned f _ (c .before .before .before .before .before .before .before .before .write-image .ensures .0) (c .before .before .before .before .before .before .before .before .write-image .ensures .1) (c .before .before .before .before .before .before .before .before .before .before .before .before .before .before .before .before .before .before .before .before .before .before .before .before .before .before .before .pre .1) (c .before .before .before .before .before .before .before .before .before .before .before .before .before .before .before .before .before .before .before .take-words .ensures .long .1) _ _ (subst (Reads _) (c .before .before .number .given .1) (c .before .before .before .before .read .ensures)))
 
 returns-5 : tie.Need-returns-5
 returns-5 c =

@@ -13,12 +13,12 @@ use Rattle.faults.proofs.fields.tested.Tie as tie
 returns : tie.Need-returns
 returns c = sym (choose-false _ _ (sym (c .before .is-there .ensures) ∙ not-true _ (c .if1 .taken)))
 
-add-t7 : tie.Need-add-t7
-add-t7 c =
+add-next : tie.Need-add-next
+add-next c =
     omega (
       arith,
-      leb-true (c .before .before .before .before .args .at + 2) (length (c .before .before .before .before .args .image .now))
-          (sym (c .before .before .is-there .ensures) ∙ not-false _ (c .before .if1 .left)),
+      leb-true (c .before .before .before .args .at + 2) (length (c .before .before .before .args .image .now))
+          (sym (c .before .is-there .ensures) ∙ not-false _ (c .if1 .left)),
     )
 
 returns-2 : tie.Need-returns-2
@@ -28,4 +28,4 @@ returns-3 : tie.Need-returns-3
 returns-3 c = sym (choose-true _ _ (sym (c .before .before .is-there .ensures) ∙ not-false _ (c .before .if1 .left)) ∙ simp (finding-wrong _ (c .if2 .left)))
 
 pub tested-spec : {M : Type 1} → statement M
-tested-spec = tie.close (tie.spec (λ c κs. search needs) returns add-t7 returns-2 returns-3)
+tested-spec = tie.close (tie.spec (λ c κs. search needs) returns add-next returns-2 returns-3)

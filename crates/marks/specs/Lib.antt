@@ -1,0 +1,3 @@
+-- Marks of atoms as bits: what is marked, and the laws on it.
+pub mod Marked
+pub mod MarkLaws
