@@ -1,4 +1,4 @@
-/* Wizogbare for callers in C and C++: the seven calls, their constants, and functions that take an answer apart.
+/* Wizogbare for callers in C and C++: the eight calls, their constants, and functions that take an answer apart.
  *
  * `rt staticlib embed` writes target/staticlib/libembed.a, for x86-64. What each call answers and leaves is proved:
  * crates/embed/src/lib.rt has the calls, crates/embed/specs/paper/Codes the codes.
@@ -25,6 +25,10 @@
  *               ruled out, after n nodes                   3 * 2^56 + n
  *               refused with number m, after n nodes       4 * 2^56 + 2^32 * m + n
  *               image refused, number n at place p         5 * 2^56 + 2^32 * n + p
+ *     admits    admitted, after n nodes                    n
+ *               excluded, after n nodes                    2^56 + n
+ *               refused with number m, after n nodes       2 * 2^56 + 2^32 * m + n
+ *               image refused, number n at place p         3 * 2^56 + 2^32 * n + p
  *     join      joined, k sets                             k
  *               refused with number n                      2^32 * n
  *     text,     written, n bytes                           n
@@ -84,6 +88,7 @@ enum {
     WIZOGBARE_STACK_JUDGE = 34816,
     WIZOGBARE_STACK_LIST = 5120,
     WIZOGBARE_STACK_VERDICT = 5120,
+    WIZOGBARE_STACK_ADMITS = 5120,
     WIZOGBARE_STACK_JOIN = 5120,
     WIZOGBARE_STACK_TEXT = 290816,
     WIZOGBARE_STACK_NAMES = 290816
@@ -102,10 +107,10 @@ enum wizogbare_refusal {
     WIZOGBARE_ALTERNATIVE_EMPTY = 8,     /* an alternative has no literal */
     WIZOGBARE_LOOP = 9,                  /* an atom depends on itself */
     WIZOGBARE_LIST_LONG = 20,            /* a list is longer than WIZOGBARE_LONGEST_LIST: list, verdict, join */
-    WIZOGBARE_WORK_SHORT = 21,           /* the work area is shorter than WIZOGBARE_WORK_NUMBERS: list, verdict */
-    WIZOGBARE_BUDGET_LARGE = 22,         /* the budget is above WIZOGBARE_LARGEST_BUDGET: list, verdict */
-    WIZOGBARE_ABDUCIBLE_UNKNOWN = 23,    /* the set or hypothesis names an abducible that the book has not: judge, verdict */
-    WIZOGBARE_BUDGET_USED = 30,          /* the budget is used up: list, verdict */
+    WIZOGBARE_WORK_SHORT = 21,           /* the work area is shorter than WIZOGBARE_WORK_NUMBERS: list, verdict, admits */
+    WIZOGBARE_BUDGET_LARGE = 22,         /* the budget is above WIZOGBARE_LARGEST_BUDGET: list, verdict, admits */
+    WIZOGBARE_ABDUCIBLE_UNKNOWN = 23,    /* the set or hypothesis names an abducible that the book has not: judge, verdict, admits */
+    WIZOGBARE_BUDGET_USED = 30,          /* the budget is used up: list, verdict, admits */
     WIZOGBARE_NO_ROOM = 31,              /* there is no room in the list: list, verdict, join */
     WIZOGBARE_TEXT_MALFORMED = 50,       /* the text is malformed, or longer than WIZOGBARE_LONGEST_TEXT: text, names */
     WIZOGBARE_NAME_CLASH = 51,           /* a name stands both with and without `abd`: text, names */
@@ -128,10 +133,20 @@ uint64_t wizogbare_judge(const uint8_t *image, size_t image_length, uint64_t set
 uint64_t wizogbare_list(const uint8_t *image, size_t image_length, uint32_t budget, uint64_t *sets, size_t sets_length,
                         uint32_t *work, size_t work_length);
 
-/* Lists, and says of an abducible by its number whether it is in every set, in some or in none, or that there is no set; or
- * refused as the listing is, or with 23. It leaves `sets` and `work` as the listing does. */
+/* Lists, and says of an abducible by its number whether it is in every explaining set, of any size, in some or in none, or that
+ * there is no such set; or refused as the listing is, or with 23. The list does not settle it where it has sets and none of them has the
+ * abducible. Then there is a second search, that of wizogbare_admits, with a budget of its own of the same number; it needs no
+ * room, and the nodes of the two are added up. It may be refused with 30 too, with the nodes of the listing and the budget. The
+ * call leaves `sets` and `work` as the listing does, but after a 30 of the second search `sets` is all 0. */
 uint64_t wizogbare_verdict(const uint8_t *image, size_t image_length, uint32_t hypothesis, uint32_t budget, uint64_t *sets,
                            size_t sets_length, uint32_t *work, size_t work_length);
+
+/* Says of an abducible by its number whether some explaining set, of any size, has it: admitted if one has, excluded if none
+ * has, with the nodes visited; or refused with 1 to 9 and the place, or with 21, 22, 23 or 30. Where nothing explains, it is
+ * excluded. There is no list. After each answer, and after 30, the first WIZOGBARE_WORK_NUMBERS of `work` are 0 and later ones
+ * unchanged. Every other refusal leaves it untouched, with 0 nodes. It need not be cleared before. */
+uint64_t wizogbare_admits(const uint8_t *image, size_t image_length, uint32_t hypothesis, uint32_t budget, uint32_t *work,
+                          size_t work_length);
 
 /* Joins two lists: the sets of either with no proper subset among them, once each, fewest members first; or refused with 20 or
  * 31. Every entry lent is a set, and 0 is the empty one: of a listing lend only the sets it counted. Joined, `out` has the sets
@@ -270,6 +285,34 @@ static inline uint32_t wizogbare_verdict_nodes(uint64_t code)
 static inline uint32_t wizogbare_verdict_byte(uint64_t code)
 {
     return wizogbare_verdict_kind_of(code) == WIZOGBARE_VERDICT_BROKEN ? wizogbare_lower_bits(code) : 0;
+}
+
+/* admits */
+
+enum wizogbare_admits_kind {
+    WIZOGBARE_ADMITTED,
+    WIZOGBARE_EXCLUDED,
+    WIZOGBARE_ADMITS_REFUSED,
+    WIZOGBARE_ADMITS_BROKEN /* the image itself is refused */
+};
+
+static inline enum wizogbare_admits_kind wizogbare_admits_kind_of(uint64_t code)
+{
+    return (enum wizogbare_admits_kind)wizogbare_kind_bits(code);
+}
+
+/* 0 for every kind but the last two: nothing else stands there */
+static inline uint32_t wizogbare_admits_refusal(uint64_t code) { return wizogbare_upper_bits(code); }
+
+static inline uint32_t wizogbare_admits_nodes(uint64_t code)
+{
+    return wizogbare_admits_kind_of(code) == WIZOGBARE_ADMITS_BROKEN ? 0 : wizogbare_lower_bits(code);
+}
+
+/* of WIZOGBARE_ADMITS_BROKEN: the byte of the image where it is at fault */
+static inline uint32_t wizogbare_admits_byte(uint64_t code)
+{
+    return wizogbare_admits_kind_of(code) == WIZOGBARE_ADMITS_BROKEN ? wizogbare_lower_bits(code) : 0;
 }
 
 /* join */

@@ -112,9 +112,28 @@ def try_text():
     answers("judge, goal", run("judge", EXAMPLE, "none"), "does not explain: goal literal 0 is false\n")
     answers("judge, constraint", run("judge", EXAMPLE, "2"), "does not explain: constraint 0 does not hold\n")
     answers("verdict possible", run("verdict", EXAMPLE, "0"), "possible nodes 15\n")
-    answers("verdict ruled out", run("verdict", EXAMPLE, "2"), "ruled out nodes 15\n")
+    answers("verdict ruled out", run("verdict", EXAMPLE, "2"), "ruled out nodes 29\n")
+    answers("verdict ruled out, budget just enough", run("verdict", EXAMPLE, "2", "--budget", "15"), "ruled out nodes 29\n")
     answers("verdict needed", run("verdict", "-", "0", given=books.P8), "needed nodes 6\n")
+    answers("verdict possible, in no smallest set", run("verdict", "-", "1", given=books.P8), "possible nodes 11\n")
+    answers("verdict possible, budget just enough", run("verdict", "-", "1", "--budget", "4", given=books.KELP), "possible nodes 7\n")
+    answers("verdict possible, room for the list alone", run("verdict", "-", "1", "--room", "1", given=books.P8), "possible nodes 11\n")
     answers("verdict unexplained", run("verdict", "-", "0", given=books.P10), "unexplained nodes 6\n")
+
+
+def try_admits():
+    answers("admits, admitted", run("admits", EXAMPLE, "0"), "admitted nodes 6\n")
+    answers("admits, excluded", run("admits", EXAMPLE, "2"), "excluded nodes 14\n")
+    answers("admits, in no smallest set", run("admits", "-", "1", given=books.P8), "admitted nodes 5\n")
+    answers("admits, unexplained", run("admits", "-", "1", given=books.P10), "excluded nodes 7\n")
+    answers("admits, budget just enough", run("admits", EXAMPLE, "2", "--budget", "14"), "excluded nodes 14\n")
+    answers("admits, options ahead", run("admits", "--budget", "6", EXAMPLE, "0"), "admitted nodes 6\n")
+    answers("admits, the largest budget", run("admits", EXAMPLE, "0", "--budget", "1000000"), "admitted nodes 6\n")
+    record("admits --json", run("admits", EXAMPLE, "0", "--json"), {"answer": "admitted", "nodes": 6})
+    record("admits --json, excluded", run("admits", EXAMPLE, "2", "--json"), {"answer": "excluded", "nodes": 14})
+    ran = run("admits", EXAMPLE, "2", "--budget", "13", "--json")
+    sentence = ran.err.removeprefix("wizogbare: refused 30: ").removesuffix("\n")
+    record("admits --json, refused", ran, {"answer": "refused", "number": 30, "nodes": 13, "sentence": sentence}, 1)
 
 
 def try_json():
@@ -124,7 +143,7 @@ def try_json():
     goal, constraint = run("judge", EXAMPLE, "none", "--json"), run("judge", EXAMPLE, "2", "--json")
     record("judge --json, goal", goal, {"answer": "does not explain", "false_goal": 0})
     record("judge --json, constraint", constraint, {"answer": "does not explain", "broken_constraint": 0})
-    record("verdict --json", run("verdict", EXAMPLE, "2", "--json"), {"answer": "ruled out", "nodes": 15})
+    record("verdict --json", run("verdict", EXAMPLE, "2", "--json"), {"answer": "ruled out", "nodes": 29})
     ran = run("list", EXAMPLE, "--budget", "14", "--json")
     sentence = ran.err.removeprefix("wizogbare: refused 30: ").removesuffix("\n")
     record("list --json, refused", ran, {"answer": "refused", "number": 30, "nodes": 14, "sentence": sentence}, 1)
@@ -156,6 +175,9 @@ FAILING = [
     ("a,c,e", "constraint 3 does not hold: abd(c) ---> false", {"broken_constraint": 3, "words": "abd(c) ---> false"}),
 ]
 
+# Kelp explains the group, and kelp with rock does too.
+KELP = b"group :- abd(kelp). abd(rock) ---> hard. hard. ?- group."
+
 # A name that is the word for the empty set, and atoms with numbers that no set of 64 bits has.
 CALLED_NONE = b"x :- abd(none). x :- abd(a), abd(b). ?- x."
 MANY = b"x :- " + b", ".join(b"abd(a%d)" % j for j in range(64)) + b". ?- x, naf(y)."
@@ -180,8 +202,13 @@ def try_rules(folder):
     answers("check of a text", run("check", rules), "accepted\n")
     record("check --json of a text", run("check", rules, "--json"), {"answer": "accepted"})
     answers("verdict of a text, a name", run("verdict", rules, "fish"), "possible nodes 15\n")
-    answers("verdict of a text, a number", run("verdict", rules, "2"), "ruled out nodes 15\n")
-    record("verdict --json of a text", run("verdict", rules, "bubbles", "--json"), {"answer": "ruled out", "nodes": 15})
+    answers("verdict of a text, a number", run("verdict", rules, "2"), "ruled out nodes 29\n")
+    record("verdict --json of a text", run("verdict", rules, "bubbles", "--json"), {"answer": "ruled out", "nodes": 29})
+    answers("verdict of a text, in no smallest set", run("verdict", "-", "rock", given=KELP), "possible nodes 14\n")
+    answers("admits of a text, a name", run("admits", rules, "fish"), "admitted nodes 6\n")
+    answers("admits of a text, a number", run("admits", rules, "2"), "excluded nodes 14\n")
+    answers("admits of a text, in no smallest set", run("admits", "-", "rock", given=KELP), "admitted nodes 7\n")
+    record("admits --json of a text", run("admits", rules, "bubbles", "--json"), {"answer": "excluded", "nodes": 14})
     for word in ("fish", "rock", "fish,rock", "fish,fish", "0,fish", "1"):
         answers(f"judge of a text, {word}", run("judge", rules, word), "explains\n")
     answers("judge, a member twice", run("judge", EXAMPLE, "0,0"), "explains\n")
@@ -200,19 +227,27 @@ def try_names(folder):
     fails("judge, one name that is not there", run("judge", rules, "fish,cod,rock"), "this text has no `cod`")
     fails("judge, a fixed word", run("judge", rules, "true"), "this text has no `true`")
     fails("verdict, a name that is not there", run("verdict", rules, "cod"), "this text has no `cod`")
+    fails("admits, a name that is not there", run("admits", rules, "cod"), "rules.txt: this text has no `cod`")
     fails("judge of an image, a name", run("judge", EXAMPLE, "fish"), "argument SET: `fish` is no set")
     fails("judge of an image, a name and a number", run("judge", EXAMPLE, "0,fish"), "argument SET: `0,fish` is no set")
     fails("verdict of an image, a name", run("verdict", EXAMPLE, "fish"), "argument H: `fish` is no number from 0")
+    fails("verdict of an image, a name, and its help", run("verdict", EXAMPLE, "fish"), "(see ./wizogbare verdict --help)")
+    fails("admits of an image, a name", run("admits", EXAMPLE, "fish"), "argument H: `fish` is no number from 0")
+    fails("admits of an image, a name, and its help", run("admits", EXAMPLE, "fish"), "(see ./wizogbare admits --help)")
     for word in ("Fish", "fish,", "fish rock", "_x", "x" * 32, "naf(fish)", "abd(fish)"):
         fails(f"judge of a text, {word}", run("judge", rules, word), "is no set")
         fails(f"verdict of a text, {word}", run("verdict", rules, word), "is no number from 0")
+        fails(f"admits of a text, {word}", run("admits", rules, word), "is no number from 0")
     for word in ("spike", "wake", "fish,wake", "3", "4"):
         refuses(f"judge of a text, {word}", run("judge", rules, word), "refused 23\n", "may not be assumed")
     for word in ("spike", "4", "4294967295"):
         refuses(f"verdict of a text, {word}", run("verdict", rules, word), "refused 23 nodes 0\n", "may not be assumed")
+        refuses(f"admits of a text, {word}", run("admits", rules, word), "refused 23 nodes 0\n", "may not be assumed")
     refuses("judge, atom 64", run("judge", "-", "x", given=MANY), "refused 23\n", "may not be assumed")
     refuses("judge, atom 65 among others", run("judge", "-", "a0,y", given=MANY), "refused 23\n", "may not be assumed")
     refuses("verdict, atom 64", run("verdict", "-", "x", given=MANY), "refused 23 nodes 0\n", "may not be assumed")
+    refuses("admits, atom 64", run("admits", "-", "x", given=MANY), "refused 23 nodes 0\n", "may not be assumed")
+    answers("admits, abducible 63", run("admits", "-", "a63", given=MANY), "admitted nodes 68\n")
     answers("judge, abducible 63", run("judge", "-", ",".join(f"a{j}" for j in range(64)), given=MANY), "explains\n")
     answers("list, an abducible called none", run("list", "-", given=CALLED_NONE), "sets 2 nodes 6\n1: 0\n2: a b\n")
     record("list --json, an abducible called none", run("list", "-", "--json", given=CALLED_NONE),
@@ -222,6 +257,7 @@ def try_names(folder):
     answers("judge, an abducible called none by its number", run("judge", "-", "0", given=CALLED_NONE), "explains\n")
     answers("judge, an abducible called none among others", run("judge", "-", "a,none", given=CALLED_NONE), "explains\n")
     answers("verdict, an abducible called none", run("verdict", "-", "none", given=CALLED_NONE), "possible nodes 6\n")
+    answers("admits, an abducible called none", run("admits", "-", "none", given=CALLED_NONE), "admitted nodes 4\n")
 
 
 REFUSED_TEXTS = [
@@ -233,13 +269,15 @@ REFUSED_TEXTS = [
 
 def try_refused_texts(folder):
     for number, text, part in REFUSED_TEXTS:
-        for words in (["list", "-"], ["check", "-"], ["judge", "-", "none"], ["judge", "-", "cod"], ["verdict", "-", "0"], ["image", "-"]):
+        for words in (["list", "-"], ["check", "-"], ["judge", "-", "none"], ["judge", "-", "cod"], ["verdict", "-", "0"],
+                      ["admits", "-", "0"], ["image", "-"]):
             refuses(f"{words[0]}, a text, {number}", run(*words, given=text), f"refused {number}\n", part)
     ran = run("list", "-", "--json", given=b"?-")
     sentence = ran.err.removeprefix("wizogbare: refused 50: ").removesuffix("\n")
     record("list --json of a text, refused", ran, {"answer": "refused", "number": 50, "sentence": sentence}, 1)
     rules = folder / "rules.txt"
     refuses("a text, budget used up", run("list", rules, "--budget", "14"), "refused 30 nodes 14\n", "budget was used up")
+    refuses("a text, budget of admits used up", run("admits", rules, "fish", "--budget", "5"), "refused 30 nodes 5\n", "budget was used up")
     refuses("a text, room", run("list", rules, "--room", "1025"), "refused 20 nodes 0\n", "(--room, at most 1,024)")
     refuses("an empty file is an image", run("check", "-", given=b""), "refused 1 at 0\n", "shorter than 5 bytes")
     for first in (b"\x00", b"\x0b", b"\x1f", b"\x7f", b"\x80", b"\xef"):
@@ -331,7 +369,7 @@ def try_refusals():
         told = f"byte {place}, counted from 0"
         for words in (["check", "-"], ["judge", "-", "0"]):
             refuses(f"{words[0]}, {number}", run(*words, given=damaged), f"refused {number} at {place}\n", told)
-        for words in (["list", "-"], ["verdict", "-", "0"]):
+        for words in (["list", "-"], ["verdict", "-", "0"], ["admits", "-", "0"]):
             refuses(f"{words[0]}, {number}", run(*words, given=damaged), f"refused {number} nodes 0 at {place}\n", told)
     refuses("room", run("list", EXAMPLE, "--room", "1025"), "refused 20 nodes 0\n", "(--room, at most 1,024)")
     refuses("a very large room", run("list", EXAMPLE, "--room", "4294967295"), "refused 20 nodes 0\n", "(--room, at most 1,024)")
@@ -340,6 +378,13 @@ def try_refusals():
     refuses("hypothesis", run("verdict", EXAMPLE, "4294967295"), "refused 23 nodes 0\n", "from 0 to one below")
     refuses("budget used up", run("list", EXAMPLE, "--budget", "14"), "refused 30 nodes 14\n", "budget was used up")
     refuses("verdict, budget", run("verdict", EXAMPLE, "0", "--budget", "0"), "refused 30 nodes 0\n", "(--budget, at most 1,000,000)")
+    refuses("verdict, budget of the second search", run("verdict", "-", "1", "--budget", "3", given=books.KELP),
+            "refused 30 nodes 6\n", "budget was used up")
+    refuses("admits, hypothesis", run("admits", EXAMPLE, "3"), "refused 23 nodes 0\n", "from 0 to one below")
+    refuses("admits, a very large hypothesis", run("admits", EXAMPLE, "4294967295"), "refused 23 nodes 0\n", "from 0 to one below")
+    refuses("admits, budget", run("admits", EXAMPLE, "0", "--budget", "1000001"), "refused 22 nodes 0\n", "above 1,000,000")
+    refuses("admits, budget used up", run("admits", EXAMPLE, "2", "--budget", "13"), "refused 30 nodes 13\n", "budget was used up")
+    refuses("admits, no budget", run("admits", EXAMPLE, "0", "--budget", "0"), "refused 30 nodes 0\n", "(--budget, at most 1,000,000)")
     refuses("room used up", run("list", EXAMPLE, "--room", "1"), "refused 31 nodes 10\n", "(--room, at most 1,024)")
 
 
@@ -402,22 +447,29 @@ def try_no_lists(folder):
 
 def try_usage():
     answers("--version", run("--version"), f"wizogbare {(HERE / 'VERSION').read_text()}")
-    for words in ([], ["list"], ["check"], ["judge"], ["verdict"], ["join"], ["image"]):
+    for words in ([], ["list"], ["check"], ["judge"], ["verdict"], ["admits"], ["join"], ["image"]):
         ran = run(*words, "--help")
         note(f"help {words}", ran.status == 0 and ran.out.startswith("usage: ./wizogbare") and ran.err == "", ran)
     fails("no command", run(), "COMMAND")
     fails("another command", run("frob", EXAMPLE), "invalid choice")
     fails("no file", run("list"), "required: FILE")
     fails("no set", run("judge", EXAMPLE), "required: SET")
+    fails("verdict, no hypothesis", run("verdict", EXAMPLE), "required: H")
+    fails("admits, no hypothesis", run("admits", EXAMPLE), "required: H")
+    fails("admits, no file", run("admits"), "required: FILE, H")
     fails("a second file", run("list", EXAMPLE, "books/kelp"), "list takes one file, and `books/kelp` is too much")
     fails("a second file of check", run("check", EXAMPLE, "books/kelp"), "check takes one file")
     fails("a second set", run("judge", EXAMPLE, "0", "1"), "judge takes one file and one set")
     fails("a second hypothesis", run("verdict", EXAMPLE, "0", "1"), "verdict takes one file and one hypothesis")
+    fails("a second hypothesis of admits", run("admits", EXAMPLE, "0", "1"), "admits takes one file and one hypothesis")
+    fails("admits has no list", run("admits", EXAMPLE, "0", "--room", "5"), "admits has no option --room")
     fails("another option", run("list", EXAMPLE, "--fast"), "list has no option --fast")
     fails("half an option", run("list", EXAMPLE, "--bud", "5"), "list has no option --bud")
     for wrong in ("x", "-1", "", "1e3", "4294967296", "9" * 5000):
         fails(f"budget {wrong[:12]}", run("list", EXAMPLE, f"--budget={wrong}"), "is no number from 0")
         fails(f"hypothesis {wrong[:12]}", run("verdict", EXAMPLE, wrong), "is no number from 0")
+        fails(f"budget of admits {wrong[:12]}", run("admits", EXAMPLE, "0", f"--budget={wrong}"), "is no number from 0")
+        fails(f"hypothesis of admits {wrong[:12]}", run("admits", EXAMPLE, wrong), "is no number from 0")
     for wrong in ("x", "", "0,", "0 1", "all", "-1"):
         fails(f"set {wrong}", run("judge", EXAMPLE, wrong), "is no set")
     fails("set with 64", run("judge", EXAMPLE, "0,64"), "64 is no abducible")
@@ -567,7 +619,7 @@ def main():
     with tempfile.TemporaryDirectory() as name:
         folder = Path(name)
         folder.chmod(0o755)
-        for attempt in (try_text, try_json, try_listing, try_refusals, try_usage, try_output, try_old_python):
+        for attempt in (try_text, try_admits, try_json, try_listing, try_refusals, try_usage, try_output, try_old_python):
             attempt()
         for attempt in (try_join, try_long_lists, try_no_lists, try_files):
             attempt(folder)

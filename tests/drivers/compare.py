@@ -12,7 +12,7 @@ from tests.implementation.answers import Cases
 from tests.drivers.shared import Comparison, batches, options
 from tests.generators.cases import case
 from tests.implementation.reader import Book, read
-from tests.implementation.search import admitted, explore
+from tests.implementation.search import explore, settled, started
 
 
 class Figures:
@@ -24,22 +24,34 @@ class Figures:
     def note(self, packed):
         cases = Cases(packed)
         operation = cases.number(1)
-        if operation not in (1, 2, 3, 4):
+        if operation not in (1, 2, 3, 4, 13):
             return
         image = cases.image()
         if isinstance(read(image), Book):
             self.image = max(self.image, len(image))
-        if operation in (3, 4):
-            if operation == 4:
-                cases.number(4)
-            self.note_search(image, *cases.means())
+        if operation == 3:
+            self.note_searches(image, None, *cases.means())
+        elif operation == 4:
+            self.note_searches(image, cases.number(4), *cases.means())
+        elif operation == 13:
+            hypothesis, budget, work_length = cases.asked()
+            book, refusal = started(image, budget, 0, work_length, hypothesis)
+            if not refusal:
+                self.note_search(explore(book, budget, 0, hypothesis))
 
-    def note_search(self, image, budget, room, work_length):
-        book, refusal = admitted(image, budget, room, work_length)
-        if not refusal:
-            search = explore(book, budget, room)
-            self.nodes = max(self.nodes, search.nodes)
-            self.path = max(self.path, search.longest)
+    def note_searches(self, image, hypothesis, budget, room, work_length):
+        """The first search, and the second where the list does not settle the hypothesis."""
+        book, refusal = started(image, budget, room, work_length, hypothesis)
+        if refusal:
+            return
+        first = explore(book, budget, room)
+        self.note_search(first)
+        if hypothesis is not None and not first.refusal and not settled(first.kept, hypothesis):
+            self.note_search(explore(book, budget, 0, hypothesis))
+
+    def note_search(self, search):
+        self.nodes = max(self.nodes, search.nodes)
+        self.path = max(self.path, search.longest)
 
     def report(self):
         print(f"largest book {self.image} bytes, largest search {self.nodes} nodes, longest path {self.path} nodes")

@@ -24,6 +24,9 @@ static const uint8_t wanted[] = {1, 0, 0, 0, 12, 0, 1, 0, 1, 0, 1, 0, 0, 0, 0, 0
 static const uint8_t unwanted[] = {1, 0, 0, 0, 12, 0, 1, 0, 1, 0, 1, 0, 1, 0, 0, 0, 0};
 static const uint8_t forbidden[] = {1, 0, 0, 0, 22, 0, 1, 0, 1, 0, 0, 0, 0, 0, 2, 0, 4, 0, 1, 0, 1, 0, 4, 0, 1, 0, 0};
 
+/* Two abducibles, of which the goal wants the first; the second is in no smallest set, and yet possible. */
+static const uint8_t beside[] = {1, 0, 0, 0, 12, 0, 2, 0, 2, 0, 1, 0, 0, 0, 0, 0, 0};
+
 /* One atom wanted, from either of two abducibles. */
 static const uint8_t either[] = {1, 0, 0, 0, 24, 0, 3, 0, 2, 0, 1, 0, 4, 0, 2, 0, 4, 0, 2, 0, 0, 0, 4, 0, 2, 0, 2, 0, 0};
 
@@ -44,6 +47,8 @@ static const uint32_t BUDGET = 100;
     wizogbare_list(image, sizeof image, budget, sets, room, work, WIZOGBARE_WORK_NUMBERS)
 #define VERDICT(image, hypothesis, sets, room) \
     wizogbare_verdict(image, sizeof image, hypothesis, BUDGET, sets, room, work, WIZOGBARE_WORK_NUMBERS)
+#define ADMITS(image, hypothesis, budget) \
+    wizogbare_admits(image, sizeof image, hypothesis, budget, work, WIZOGBARE_WORK_NUMBERS)
 
 typedef uint64_t text_call(const uint8_t *, size_t, uint8_t *, size_t);
 
@@ -82,6 +87,11 @@ static void try_null(void)
     expect(wizogbare_verdict_refusal(code) == WIZOGBARE_WORK_SHORT, "verdict with no work area");
     code = VERDICT(wanted, 0, NULL, 0);
     expect(wizogbare_verdict_refusal(code) == WIZOGBARE_NO_ROOM, "verdict in no room");
+    code = wizogbare_admits(NULL, 0, 0, BUDGET, NULL, 0);
+    expect(wizogbare_admits_kind_of(code) == WIZOGBARE_ADMITS_BROKEN, "admits of nothing");
+    expect(wizogbare_admits_refusal(code) == WIZOGBARE_IMAGE_SHORT && wizogbare_admits_byte(code) == 0, "its number and byte");
+    code = wizogbare_admits(wanted, sizeof wanted, 0, BUDGET, NULL, 0);
+    expect(wizogbare_admits_refusal(code) == WIZOGBARE_WORK_SHORT, "admits with no work area");
     expect(wizogbare_join(NULL, 0, NULL, 0, NULL, 0) == 0, "join of nothing");
     expect(wizogbare_join(&empty, 1, NULL, 0, sets, 1) == 1, "join with no right list");
     expect(wizogbare_join(NULL, 0, &empty, 1, sets, 1) == 1, "join with no left list");
@@ -113,6 +123,12 @@ static void try_constants(void)
     expect(wizogbare_list_refusal(code) == WIZOGBARE_BUDGET_LARGE, "a budget too large");
     code = LIST(wanted, 1, sets, ROOM);
     expect(wizogbare_list_refusal(code) == WIZOGBARE_BUDGET_USED, "a budget used up");
+    code = ADMITS(wanted, 0, WIZOGBARE_LARGEST_BUDGET);
+    expect(wizogbare_admits_kind_of(code) == WIZOGBARE_ADMITTED, "admits with the largest budget");
+    code = wizogbare_admits(wanted, sizeof wanted, 0, BUDGET, work, TOO_SHORT);
+    expect(wizogbare_admits_refusal(code) == WIZOGBARE_WORK_SHORT, "admits with a work area too short");
+    code = ADMITS(wanted, 0, TOO_LARGE);
+    expect(wizogbare_admits_refusal(code) == WIZOGBARE_BUDGET_LARGE, "admits with a budget too large");
     code = wizogbare_join(lists, ROOM, lists, ROOM, sets, ROOM);
     expect(wizogbare_join_kind_of(code) == WIZOGBARE_JOINED && wizogbare_join_count(code) == 1, "a join of the longest lists");
     code = wizogbare_join(lists, TOO_LONG, lists, 0, sets, 1);
@@ -150,7 +166,8 @@ static void try_answers(void)
     expect(wizogbare_list_refusal(code) == WIZOGBARE_NO_ROOM && wizogbare_list_count(code) == 0, "its refusal");
     expect(wizogbare_list_nodes(code) == 5 && sets[0] == 0, "its nodes, and the list left 0");
     expect(wizogbare_verdict_kind_of(VERDICT(wanted, 0, sets, ROOM)) == WIZOGBARE_NEEDED, "needed");
-    expect(wizogbare_verdict_kind_of(VERDICT(unwanted, 0, sets, ROOM)) == WIZOGBARE_RULED_OUT, "ruled out");
+    code = VERDICT(unwanted, 0, sets, ROOM);
+    expect(wizogbare_verdict_kind_of(code) == WIZOGBARE_RULED_OUT && wizogbare_verdict_nodes(code) == 4, "ruled out");
     expect(wizogbare_verdict_kind_of(VERDICT(unexplained, 0, sets, ROOM)) == WIZOGBARE_UNEXPLAINED, "unexplained");
     code = VERDICT(either, 1, sets, ROOM);
     expect(wizogbare_verdict_kind_of(code) == WIZOGBARE_POSSIBLE, "possible");
@@ -158,6 +175,38 @@ static void try_answers(void)
     code = VERDICT(unexplained, 1, sets, ROOM);
     expect(wizogbare_verdict_kind_of(code) == WIZOGBARE_VERDICT_REFUSED, "a verdict's refusal");
     expect(wizogbare_verdict_refusal(code) == WIZOGBARE_ABDUCIBLE_UNKNOWN && wizogbare_verdict_nodes(code) == 0, "its number");
+}
+
+/* The list of `beside` takes 2 nodes, and the second search 3. */
+static void try_second_search(void)
+{
+    enum { ROOM = WIZOGBARE_LONGEST_LIST };
+    uint64_t code = VERDICT(beside, 1, sets, ROOM);
+    expect(wizogbare_verdict_kind_of(code) == WIZOGBARE_POSSIBLE, "possible, in no smallest set");
+    expect(wizogbare_verdict_nodes(code) == 5 && sets[0] == 1 && sets[1] == 0, "its nodes, and the list kept");
+    code = VERDICT(beside, 1, sets, 1);
+    expect(wizogbare_verdict_kind_of(code) == WIZOGBARE_POSSIBLE, "a second search needs no room");
+    code = wizogbare_verdict(beside, sizeof beside, 1, 3, sets, ROOM, work, WIZOGBARE_WORK_NUMBERS);
+    expect(wizogbare_verdict_kind_of(code) == WIZOGBARE_POSSIBLE, "a budget just enough for each of two searches");
+    code = wizogbare_verdict(beside, sizeof beside, 1, 2, sets, ROOM, work, WIZOGBARE_WORK_NUMBERS);
+    expect(wizogbare_verdict_refusal(code) == WIZOGBARE_BUDGET_USED, "a budget used up by the second search");
+    expect(wizogbare_verdict_nodes(code) == 4 && sets[0] == 0, "its nodes, and the list left 0");
+    code = VERDICT(beside, 0, sets, ROOM);
+    expect(wizogbare_verdict_kind_of(code) == WIZOGBARE_NEEDED && wizogbare_verdict_nodes(code) == 2, "needed by the list alone");
+    code = ADMITS(beside, 1, 3);
+    expect(wizogbare_admits_kind_of(code) == WIZOGBARE_ADMITTED, "admitted");
+    expect(wizogbare_admits_nodes(code) == 3 && wizogbare_admits_refusal(code) == 0 && wizogbare_admits_byte(code) == 0, "its nodes");
+    code = ADMITS(unwanted, 0, BUDGET);
+    expect(wizogbare_admits_kind_of(code) == WIZOGBARE_EXCLUDED, "excluded");
+    expect(wizogbare_admits_nodes(code) == 2 && wizogbare_admits_refusal(code) == 0 && wizogbare_admits_byte(code) == 0, "its nodes");
+    expect(wizogbare_admits_kind_of(ADMITS(unexplained, 0, BUDGET)) == WIZOGBARE_EXCLUDED, "excluded where nothing explains");
+    code = ADMITS(beside, 1, 2);
+    expect(wizogbare_admits_kind_of(code) == WIZOGBARE_ADMITS_REFUSED, "admits with a budget used up");
+    expect(wizogbare_admits_refusal(code) == WIZOGBARE_BUDGET_USED && wizogbare_admits_nodes(code) == 2, "its number and nodes");
+    expect(wizogbare_admits_byte(code) == 0, "no byte");
+    code = ADMITS(beside, 2, BUDGET);
+    expect(wizogbare_admits_kind_of(code) == WIZOGBARE_ADMITS_REFUSED, "admits of no abducible");
+    expect(wizogbare_admits_refusal(code) == WIZOGBARE_ABDUCIBLE_UNKNOWN && wizogbare_admits_nodes(code) == 0, "its number");
 }
 
 /* An image whose first atom is too many: every call tells the refusal, and byte 5. */
@@ -178,6 +227,9 @@ static void try_broken(void)
     code = VERDICT(broken, 0, sets, ROOM);
     expect(wizogbare_verdict_kind_of(code) == WIZOGBARE_VERDICT_BROKEN && wizogbare_verdict_nodes(code) == 0, "a broken book, and a verdict");
     expect(wizogbare_verdict_refusal(code) == WIZOGBARE_LIMIT_BROKEN && wizogbare_verdict_byte(code) == A, "its number and byte");
+    code = ADMITS(broken, 0, BUDGET);
+    expect(wizogbare_admits_kind_of(code) == WIZOGBARE_ADMITS_BROKEN && wizogbare_admits_nodes(code) == 0, "a broken book, and admits");
+    expect(wizogbare_admits_refusal(code) == WIZOGBARE_LIMIT_BROKEN && wizogbare_admits_byte(code) == A, "its number and byte");
     expect(wizogbare_list_byte(LIST(either, BUDGET, sets, 1)) == 0, "a refusal without a byte");
 }
 
@@ -214,6 +266,7 @@ int main(void)
     try_null();
     try_constants();
     try_answers();
+    try_second_search();
     try_broken();
     try_texts();
     if (!failed)

@@ -11,17 +11,19 @@ import random
 import re
 
 from tests.stored import books
-from tests.drivers import placing
-from tests.generators import images, texts
+from tests.drivers import placing, tree
+from tests.drivers.shared import kind
+from tests.generators import asked, images, texts
 from tests.implementation import text
 from tests.stored import stored, stored_names, stored_text
-from tests.implementation.answers import (BadCase, line, line_join, line_judge, line_list, line_names, line_read, line_text, line_verdict, lines,
-                                          pack_judge, pack_list, pack_names, pack_read, pack_text, pack_verdict)
+from tests.implementation.answers import (BadCase, Cases, line, line_admits, line_join, line_judge, line_list, line_names, line_read, line_text,
+                                          line_verdict, lines, pack_admits, pack_judge, pack_list, pack_names, pack_read, pack_text, pack_verdict)
 from tests.generators.images import choice_book, image, loop_book, small_book, sound_book
 from tests.implementation.joiner import join
 from tests.implementation.judge import explains, judge
-from tests.implementation.reader import LONGEST_IMAGE, Book, Clause, Refusal, dependency_order, encode, framed, read
-from tests.implementation.search import explore, listing, smallest_by_trying, verdict
+from tests.implementation.notation import image as image_of
+from tests.implementation.reader import LONGEST_IMAGE, Book, Clause, Constraint, Refusal, dependency_order, encode, framed, read
+from tests.implementation.search import Result, admits, explaining_by_trying, explore, listing, smallest_of, verdict
 from tests.stored.stored_read import longest
 
 passed = 0
@@ -85,12 +87,20 @@ def check_examples():
     check(line_verdict(books.REFUSED[7][1], 9, 9, 0, 0) == "refused 8 nodes 0 at 19 sets work untouched", "line of a verdict refused for 8")
     check(line_verdict(books.P1, 3, 9, 0, 16384) == "refused 23 nodes 0 sets work untouched", "line of a verdict refused for 23")
     check(line_judge(books.P1, 4) == "constraint 0", "line of a judgement")
-    check(line_verdict(books.P1, 2, 15, 2, 20000) == "ruled out nodes 15 sets 1 2 work clean", "line of a verdict")
+    check(line_verdict(books.P1, 2, 15, 2, 20000) == "ruled out nodes 29 sets 1 2 work clean", "line of a verdict")
+    check(line_verdict(books.KELP, 1, 4, 2, 16384) == "possible nodes 7 sets 1 0 work clean", "kelp alone explains, rock is possible")
+    check(line_verdict(books.KELP, 1, 3, 2, 16384) == "refused 30 nodes 6 sets 0 0 work clean", "the second search one node short")
+    check(line_verdict(image_of("abducible a; -a a ->"), 0, 9, 1, 16384) == "possible nodes 9 sets 0 work clean", "paper 02, A6.8")
+    check(line_admits(books.KELP, 1, 4, 16384) == "admitted nodes 4 work clean", "line of an admitted hypothesis")
+    check(line_admits(books.P1, 2, 14, 20000) == "excluded nodes 14 work clean", "line of an excluded hypothesis")
+    check(line_admits(books.P1, 2, 13, 20000) == "refused 30 nodes 13 work clean", "line of a second search's 30")
+    check(line_admits(books.P1, 3, 13, 20000) == "refused 23 nodes 0 work untouched", "line of a second search refused for 23")
+    check(line_admits(books.REFUSED[8][1], 0, 9, 0) == "refused 9 nodes 0 at 13 work untouched", "line of a second search of a loop")
     check(line_join([], [], 0) == "joined 0 sets", "line of an empty joining")
 
 
 def check_against_trying(count):
-    """Finished listings equal trying all sets; verdicts follow from them."""
+    """Finished listings, verdicts and second searches equal trying all sets. (A second search has at most one node more than the first.)"""
     rng = random.Random(11)
     for number in range(count):
         book = (small_book, choice_book)[number % 2](rng)
@@ -99,21 +109,109 @@ def check_against_trying(count):
             continue
         nodes = search.nodes
         packed = encode(book)
-        smallest = smallest_by_trying(book)
+        explaining = explaining_by_trying(book)
+        smallest = smallest_of(explaining)
         answer, reported, sets = listed(packed, nodes, 1024)
         check((answer, reported, sets) == (("listed", len(smallest)), nodes, smallest), book)
         check(listed(packed, nodes - 1, 1024) == (("refused", 30), nodes - 1, []), book)
         check(all(explains(book, s) for s in smallest), book)
         for h in range(book.abducibles):
-            word = expected_verdict(smallest, h)
-            check(verdict(packed, h, nodes, 1024, 16384).answer == (word,), (book, h))
+            check(verdict(packed, h, nodes + 1, 1024, 16384).answer == (expected_verdict(explaining, h),), (book, h))
+            check(admits(packed, h, nodes + 1, 16384).answer == (expected_answer(explaining, h),), (book, h))
 
 
-def expected_verdict(smallest, h):
-    having = [s for s in smallest if s & 1 << h]
-    if not smallest:
+def expected_verdict(explaining, h):
+    """The verdict by all explaining sets, of any size."""
+    having = [s for s in explaining if s & 1 << h]
+    if not explaining:
         return "unexplained"
-    return "needed" if having == smallest else "possible" if having else "ruled out"
+    return "needed" if having == explaining else "possible" if having else "ruled out"
+
+
+def expected_answer(explaining, h):
+    return "admitted" if any(s & 1 << h for s in explaining) else "excluded"
+
+
+def check_both_searches(count):
+    """Verdicts and second searches of every book of a small kind and of random ones, in full: by all sets, and by the tree told otherwise."""
+    rng = random.Random(19)
+    for book in every_small_book():
+        check_asked(book, (-1, 0))
+    met = 0
+    while met < count:
+        book = (asked.aside_book, asked.aside_book, small_book, choice_book)[met % 4](rng)
+        if book.abducibles <= 10 and not explore(book, 1000, 1024).refusal:
+            check_asked(book, (-1, 0, 1))
+            met += 1
+
+
+def every_small_book():
+    """Abducibles 0 and 1, atom 2 with up to two clauses, and perhaps a constraint."""
+    bodies = ((), (0,), (1,), (2,), (3,), (0, 2), (0, 3), (1, 2), (1, 3))
+    clauses = [()] + [(Clause(2, body),) for body in bodies] + [(Clause(2, one), Clause(2, two)) for one in bodies for two in bodies]
+    conditions = ((), (0,), (5,), (1, 2))
+    alternatives = ((), ((0,),), ((1,),), ((2, 1),), ((3,), (0,)))
+    constraints = [()] + [(Constraint(*each),) for each in itertools.product(conditions, alternatives)]
+    for goal in ((4,), (5,)):
+        for some_clauses, some_constraints in itertools.product(clauses, constraints):
+            yield Book(3, 2, goal, some_clauses, some_constraints)
+
+
+def check_asked(book, about):
+    """Each hypothesis of the book, with budgets so far from the node numbers of both searches."""
+    packed = encode(book)
+    first, found = tree.listed(book)
+    explaining = explaining_by_trying(book)
+    smallest = smallest_of(explaining)
+    check(set(smallest) <= set(found) <= set(explaining), book)
+    check(listed(packed, first, 1024) == (("listed", len(smallest)), first, smallest), book)
+    for h in range(book.abducibles):
+        success, second = tree.asked(book, h)
+        check(tree.asked_by_cutting(book, h) == (success, second), (book, h))
+        check(second <= first + (success or not smallest), (book, h))  # so a 30 of the second search hides no verdict but possible
+        word = expected_answer(explaining, h)
+        check(success == (word == "admitted"), (book, h))
+        for budget in (0, *(second + far for far in about)):
+            expected = Result((word,), second, [], "clean") if budget >= second else Result(("refused", 30), budget, [], "clean")
+            check(admits(packed, h, budget, 16384) == expected, (book, h, budget))
+        for budget in (first + far for far in about):
+            expected = expected_result(budget, len(found), first, second, smallest, expected_verdict(explaining, h), h)
+            check(verdict(packed, h, budget, len(found), 16384) == expected, (book, h, budget))
+        if smallest and len(smallest) % 2 == h % 2:  # a refusal of the first search is passed on
+            room = len(smallest) - 1
+            check(verdict(packed, h, first, room, 16384) == listing(packed, first, room, 16384), (book, h, room))
+
+
+def expected_result(budget, room, first, second, smallest, word, h):
+    """What a verdict answers and leaves in room enough, by the node numbers of both searches, the smallest sets and the word for it."""
+    asks = bool(smallest) and not any(s & 1 << h for s in smallest)
+    if budget < first:
+        return Result(("refused", 30), budget, [0] * room, "clean")
+    if asks and budget < second:
+        return Result(("refused", 30), first + budget, [0] * room, "clean")
+    return Result((word,), first + asks * second, smallest + [0] * (room - len(smallest)), "clean")
+
+
+def check_asked_generators(count):
+    """Generated cases of verdict and second search: every answer is met, of a verdict with one search and with two."""
+    rng = random.Random(20)
+    verdicts, asks = set(), set()
+    for _ in range(count):
+        asks.add(kind(line(asked.admits_case(rng))))
+        packed = asked.verdict_case(rng)
+        answer = line(packed)
+        verdicts.add((kind(answer), searches(packed, answer)))
+    refused = {f"refused {number}" for number in (3, 4, 5, 6, 7, 9, 21, 22, 23, 30)}  # and, more rarely, 1, 2 and 8
+    check(asks >= {"admitted", "excluded"} | refused, asks)
+    one = {"unexplained", "needed", "possible", "refused 20", "refused 31"} | refused
+    check(verdicts >= {(word, 1) for word in one} | {(word, 2) for word in ("possible", "ruled out", "refused 30")}, verdicts)
+
+
+def searches(packed, answer):
+    """How many searches a verdict's nodes are of, by what the lister needs of them."""
+    cases = Cases(packed[1:])
+    unsure, _ = cases.image(), cases.number(4)
+    return 1 if int(answer.split(" nodes ")[1].split()[0]) <= listing(unsure, *cases.means()).nodes else 2
 
 
 def check_round_trips(count):
@@ -167,17 +265,20 @@ def is_place(rng, unsure, found, name):
 
 
 def check_passed_on(rng, unsure, found):
-    """Judge, lister and verdict tell of a broken image what the reader does, whatever else they are given; of no other refusal a place."""
+    """Judge, lister, verdict and second search tell of a broken image what the reader does, whatever else they are given; of no other
+    refusal a place."""
     budget, room, work = rng.choice(((5, 2, 16384), (0, 0, 16384), (5, 2, 0), (1_000_001, 2, 16384), (5, 1025, 16384)))
     judged = line(pack_judge(unsure, rng.choice((0, (1 << 64) - 1))))
-    searched = [line(pack_list(unsure, budget, room, work)), line(pack_verdict(unsure, rng.choice((0, 1 << 31)), budget, room, work))]
+    h = rng.choice((0, 1 << 31))
+    searched = [line(pack_list(unsure, budget, room, work)), line(pack_verdict(unsure, h, budget, room, work))]
+    again = line(pack_admits(unsure, h, budget, work))
     if isinstance(found, Refusal):
         check(line(pack_read(unsure)) == judged == f"refused {found.number} at {found.place}", unsure.hex())
         left = "".join(" 7" for _ in range(room))
-        told = f"refused {found.number} nodes 0 at {found.place} sets{left} work untouched"
-        check(searched == [told, told], unsure.hex())
+        told = f"refused {found.number} nodes 0 at {found.place}"
+        check(searched == [f"{told} sets{left} work untouched"] * 2 and again == f"{told} work untouched", unsure.hex())
     else:
-        check(not any(" at " in each for each in (judged, *searched)), unsure.hex())
+        check(not any(" at " in each for each in (judged, *searched, again)), unsure.hex())
 
 
 def check_loop_places(count):
@@ -252,9 +353,9 @@ def check_stored():
         table = stored.cases(operation)
         for name, packed, answer in table:
             check(packed[0] == operation and answer, name)
-        if operation != 3:  # the lister's greatest searches are run once, by the table itself
-            run = b"".join(packed for _, packed, _ in table)
-            check(list(lines(run)) == [answer for _, _, answer in table], f"operation {operation}")
+        if operation != 3:  # the lister's greatest searches are run once, by the table itself, and so are others' of a million nodes
+            again = [(packed, answer) for _, packed, answer in table if not re.search(r" nodes \d{6}", answer)]
+            check(list(lines(b"".join(packed for packed, _ in again))) == [answer for _, answer in again], f"operation {operation}")
 
 
 def check_bad_cases():
@@ -270,6 +371,11 @@ def check_bad_cases():
         check(list(lines(pack(bytes(40000), 10000) + short)) == ["refused 50 room untouched", "refused 52 room untouched"], "a longest case")
         check(list(lines(pack(bytes(40001), 0) + short)) == ["bad case"], "a text too long for a case")
         check(list(lines(pack(b"?-a.", 10001) + short)) == ["bad case"], "a room too long for a case")
+    short = pack_admits(books.KELP, 1, 4, 16384)
+    admitted = "admitted nodes 4 work clean"
+    check(list(lines(short + short[:-1])) == [admitted, "bad case"], "a case of the second search cut short")
+    check(list(lines(pack_admits(books.KELP, 1, 4, 20000) + short)) == [admitted, admitted], "a longest work area")
+    check(list(lines(pack_admits(books.KELP, 1, 4, 20001) + short)) == ["bad case"], "a work area too long for a case")
     try:
         line(sound + b"\0")
         check(False, "a byte after a case")
@@ -487,6 +593,8 @@ def main():
     check_soundings()
     check_examples()
     check_against_trying(600)
+    check_both_searches(600)
+    check_asked_generators(2500)
     check_round_trips(400)
     check_places(28_000)
     check_loop_places(5000)

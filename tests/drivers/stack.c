@@ -64,18 +64,18 @@ static void end(struct book *book)
         stop("a book is refused");
 }
 
-/* The last of all atoms rests on the one before, and so on to the first, a fact. It is wanted as the goal, or else as the
- * alternative of a constraint. */
-static void write_chain(struct book *book, int as_goal)
+/* The last of all atoms rests on the one before, and so on to the first behind so many abducibles, a fact. It is wanted as the
+ * goal, or else as the alternative of a constraint. */
+static void write_chain(struct book *book, unsigned abducibles, int as_goal)
 {
-    begin(book, MOST_ATOMS, 0);
+    begin(book, MOST_ATOMS, abducibles);
     field(book, as_goal ? 1 : 0);
     if (as_goal)
         field(book, literal(MOST_ATOMS - 1));
-    field(book, MOST_ATOMS);
+    field(book, MOST_ATOMS - abducibles);
     field(book, FIELD_BYTES);
-    field(book, 0);
-    for (unsigned atom = 1; atom < MOST_ATOMS; atom++) {
+    field(book, abducibles);
+    for (unsigned atom = abducibles + 1; atom < MOST_ATOMS; atom++) {
         field(book, 2 * FIELD_BYTES);
         field(book, atom);
         field(book, literal(atom - 1));
@@ -141,13 +141,15 @@ static void write_longest(struct book *book)
         stop("the longest book is not the longest");
 }
 
-enum { CHAIN, CHAIN_IN_CONSTRAINT, PAIRS, LONGEST, BOOKS };
+/* Beside the third chain stands an abducible that is in no smallest set: only a second search tells that it is possible. */
+enum { CHAIN, CHAIN_IN_CONSTRAINT, CHAIN_BESIDE, PAIRS, LONGEST, BOOKS };
 static struct book books[BOOKS];
 
 static void write_books(void)
 {
-    write_chain(&books[CHAIN], 1);
-    write_chain(&books[CHAIN_IN_CONSTRAINT], 0);
+    write_chain(&books[CHAIN], 0, 1);
+    write_chain(&books[CHAIN_IN_CONSTRAINT], 0, 0);
+    write_chain(&books[CHAIN_BESIDE], 1, 1);
     write_pairs(&books[PAIRS]);
     write_longest(&books[LONGEST]);
 }
@@ -248,6 +250,11 @@ static void call_verdict(void)
     answer = wizogbare_verdict(book->image, book->length, 0, WIZOGBARE_LARGEST_BUDGET, sets, room, work, WIZOGBARE_WORK_NUMBERS);
 }
 
+static void call_admits(void)
+{
+    answer = wizogbare_admits(book->image, book->length, 0, WIZOGBARE_LARGEST_BUDGET, work, WIZOGBARE_WORK_NUMBERS);
+}
+
 static void call_join(void) { answer = wizogbare_join(apart, WIZOGBARE_LONGEST_LIST, right, WIZOGBARE_LONGEST_LIST, sets, room); }
 
 static void call_text(void) { answer = wizogbare_text(text->bytes, text->length, written, room); }
@@ -305,6 +312,15 @@ static void expect_answers(void)
     expect(wizogbare_list_count(answer) == WIZOGBARE_LONGEST_LIST);
     call_verdict();
     expect(wizogbare_verdict_kind_of(answer) == WIZOGBARE_POSSIBLE);
+    call_admits();
+    expect(wizogbare_admits_kind_of(answer) == WIZOGBARE_ADMITTED);
+    book = &books[CHAIN_BESIDE];
+    call_list();
+    expect(wizogbare_list_count(answer) == 1 && sets[0] == 0);
+    call_verdict();
+    expect(wizogbare_verdict_kind_of(answer) == WIZOGBARE_POSSIBLE);
+    call_admits();
+    expect(wizogbare_admits_kind_of(answer) == WIZOGBARE_ADMITTED);
     right = apart;
     call_join();
     expect(wizogbare_join_count(answer) == WIZOGBARE_LONGEST_LIST);
@@ -371,6 +387,7 @@ int main(void)
     failed |= report("judge", most_over_books(call_judge), WIZOGBARE_STACK_JUDGE);
     failed |= report("list", most_over_books(call_list), WIZOGBARE_STACK_LIST);
     failed |= report("verdict", most_over_books(call_verdict), WIZOGBARE_STACK_VERDICT);
+    failed |= report("admits", most_over_books(call_admits), WIZOGBARE_STACK_ADMITS);
     failed |= report("join", most_over_lists(), WIZOGBARE_STACK_JOIN);
     failed |= report("text", most_over_texts(call_text), WIZOGBARE_STACK_TEXT);
     failed |= report("names", most_over_texts(call_names), WIZOGBARE_STACK_NAMES);

@@ -16,7 +16,7 @@ from pathlib import Path
 
 from tests.implementation import reader, text
 from tests.implementation.judge import judge
-from tests.implementation.search import listing, verdict
+from tests.implementation.search import admits, listing, verdict
 
 HERE = Path(__file__).resolve().parents[2]
 PAGE = HERE / "docs/WRITING-BOOKS.md"
@@ -150,7 +150,11 @@ def said_verdict(book, words):
     return f"{result.told()}\n"
 
 
-SAID = {"list": said_list, "check": said_check, "judge": said_judge, "verdict": said_verdict}
+def said_admits(book, words):
+    return f"{admits(book.image, book.number(words[0]), option(words, '--budget', BUDGET), WORK).told()}\n"
+
+
+SAID = {"list": said_list, "check": said_check, "judge": said_judge, "verdict": said_verdict, "admits": said_admits}
 
 
 def said(words, files):

@@ -1,11 +1,11 @@
 """Seeded generators of test cases: images for the reader, sound and damaged;
-small books for judge, lister and verdict; lists for the joiner.
+small books for judge and lister; lists for the joiner.
 
 Written from the specification alone; shares no code with the engine.
 Every function takes a random.Random, so a seed gives the same cases again.
 """
 
-from tests.implementation.answers import pack_join, pack_judge, pack_list, pack_read, pack_verdict
+from tests.implementation.answers import pack_join, pack_judge, pack_list, pack_read
 from tests.implementation.joiner import smallest
 from tests.implementation.reader import (MOST_ABDUCIBLES, MOST_ATOMS, MOST_BODY_LITERALS, MOST_CLAUSES,
                     MOST_CONSTRAINT_LITERALS, MOST_CONSTRAINTS, MOST_GOAL_LITERALS,
@@ -433,7 +433,7 @@ def image(rng):
     ))(rng)
 
 
-# Small books for judge, lister and verdict.
+# Small books to judge and to search.
 
 def small_book(rng):
     """A loop-free book with few abducibles, so that all sets can be tried."""
@@ -550,21 +550,6 @@ def list_case(rng):
     return pack_list(packed, *means(rng, book))
 
 
-def verdict_case(rng):
-    book, packed = book_image(rng)
-    return pack_verdict(packed, hypothesis(rng, book), *means(rng, book))
-
-
-def hypothesis(rng, book):
-    """An abducible, often one in a smallest set; sometimes one beyond B."""
-    kept = explore(book, TRIED_NODES, 1024).kept
-    some = rng.choice(kept) if kept else 0
-    members = [h for h in range(book.abducibles) if some >> h & 1]
-    if rng.random() < 0.06 or book.abducibles == 0:
-        return rng.choice((book.abducibles, book.abducibles + 1, 64, (1 << 32) - 1))
-    return rng.choice(members if members and rng.random() < 0.6 else range(book.abducibles))
-
-
 def some_set(rng, bits):
     """A set over so many abducibles: any, a sparse one, or one with the highest."""
     any_set = rng.getrandbits(bits)
@@ -588,4 +573,4 @@ def join_case(rng):
     return pack_join(left, right, min(room, 1100))
 
 
-CASES = {1: read_case, 2: judge_case, 3: list_case, 4: verdict_case, 5: join_case}
+CASES = {1: read_case, 2: judge_case, 3: list_case, 5: join_case}

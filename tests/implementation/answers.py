@@ -13,7 +13,7 @@ from tests.implementation import text
 from tests.implementation.joiner import join
 from tests.implementation.judge import judge
 from tests.implementation.reader import Book, read
-from tests.implementation.search import listing, verdict
+from tests.implementation.search import admits, listing, verdict
 
 LONGEST_CASE_IMAGE = 16384
 MOST_ROOM = 1100
@@ -69,6 +69,11 @@ def pack_names(typed, room):
     return b"\x0c" + pack_image(typed) + room.to_bytes(4, "big")
 
 
+def pack_admits(image, hypothesis, budget, work_length):
+    asked = b"".join(number.to_bytes(4, "big") for number in (hypothesis, budget, work_length))
+    return b"\x0d" + pack_image(image) + asked
+
+
 # The line of each operation.
 
 def line_read(image):
@@ -99,6 +104,11 @@ def line_text(typed, room):
 
 def line_names(typed, room):
     return writing_line(text.names(typed, room))
+
+
+def line_admits(image, hypothesis, budget, work_length):
+    result = admits(image, hypothesis, budget, work_length)
+    return f"{result.told()} work {result.work}"
 
 
 def writing_line(output):
@@ -150,6 +160,9 @@ class Cases:
     def means(self):
         return self.number(4), self.number(2, MOST_ROOM), self.number(4, MOST_WORK)
 
+    def asked(self):
+        return self.number(4), self.number(4), self.number(4, MOST_WORK)
+
     def line(self):
         """The line of the next case."""
         operation = self.number(1)
@@ -167,6 +180,8 @@ class Cases:
             return line_text(*self.text())
         if operation == 12:
             return line_names(*self.text())
+        if operation == 13:
+            return line_admits(self.image(), *self.asked())
         raise BadCase
 
 

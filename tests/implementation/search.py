@@ -1,4 +1,4 @@
-"""The lister of all smallest explanations and the verdict on one hypothesis.
+"""The lister of all smallest explanations, the second search for one hypothesis, and the verdict on it (paper 01, 5 and 6; paper 02, A3).
 
 Written from the specification alone; shares no code with the engine.
 
@@ -8,7 +8,7 @@ which is a literal, or a choice: a tuple of lists of wants, one list per child.
 A break and a constraint are choices.
 """
 
-from dataclasses import dataclass
+from dataclasses import dataclass, replace
 
 from tests.implementation.judge import explains
 from tests.implementation.reader import Book, Refusal, read
@@ -47,38 +47,51 @@ class Search:
 
 def listing(image, budget, room, work_length):
     """The lister: ('listed', K) or ('refused', number), and what it leaves."""
-    book, refusal = admitted(image, budget, room, work_length)
+    book, refusal = started(image, budget, room, work_length)
     if refusal:
         return untouched(refusal, room)
     return searched(book, budget, room)
 
 
+def admits(image, hypothesis, budget, work_length):
+    """Whether an explaining set has the hypothesis: ('admitted',), ('excluded',) or ('refused', number). It has no list."""
+    book, refusal = started(image, budget, 0, work_length, hypothesis)
+    if refusal:
+        return untouched(refusal, 0)
+    return searched_again(book, budget, hypothesis)
+
+
 def verdict(image, hypothesis, budget, room, work_length):
     """The verdict: a word as ('needed',), or ('refused', number)."""
-    book, refusal = admitted(image, budget, room, work_length)
-    if not refusal and hypothesis >= book.abducibles:
-        refusal = Refusal(23)
+    book, refusal = started(image, budget, room, work_length, hypothesis)
     if refusal:
         return untouched(refusal, room)
-    result = searched(book, budget, room)
-    word, count = result.answer
-    if word == "listed":
-        result.answer = (verdict_word(result.entries[:count], hypothesis),)
-    return result
+    first = searched(book, budget, room)
+    if first.answer[0] == "refused":
+        return first
+    word = settled(first.entries[:first.answer[1]], hypothesis)
+    if word:
+        return replace(first, answer=(word,))
+    second = searched_again(book, budget, hypothesis)
+    nodes = first.nodes + second.nodes
+    if second.answer[0] == "refused":
+        return replace(second, nodes=nodes, entries=[0] * room)
+    word = "possible" if second.answer == ("admitted",) else "ruled out"
+    return replace(first, answer=(word,), nodes=nodes)
 
 
-def verdict_word(sets, hypothesis):
-    """The verdict on the hypothesis, given the smallest sets."""
+def settled(sets, hypothesis):
+    """The verdict that follows from the smallest sets alone; None if there is a set and none has the hypothesis."""
     having = sum(s >> hypothesis & 1 for s in sets)
     if not sets:
         return "unexplained"
     if having == len(sets):
         return "needed"
-    return "possible" if having else "ruled out"
+    return "possible" if having else None
 
 
-def admitted(image, budget, room, work_length):
-    """(book, None), or (None, refusal) for a refusal 1 to 22."""
+def started(image, budget, room, work_length, hypothesis=None):
+    """(book, None), or (None, refusal) for a refusal 1 to 22, and 23 where a hypothesis is asked."""
     book = read(image)
     if not isinstance(book, Book):
         return None, book
@@ -88,6 +101,8 @@ def admitted(image, budget, room, work_length):
         return None, Refusal(21)
     if budget > MOST_BUDGET:
         return None, Refusal(22)
+    if hypothesis is not None and hypothesis >= book.abducibles:
+        return None, Refusal(23)
     return book, None
 
 
@@ -103,6 +118,13 @@ def searched(book, budget, room):
         return Result(("refused", search.refusal), search.nodes, [0] * room, "clean")
     entries = in_order(search.kept) + [0] * (room - len(search.kept))
     return Result(("listed", len(search.kept)), search.nodes, entries, "clean")
+
+
+def searched_again(book, budget, hypothesis):
+    """The second search, finished or not; it needs no list."""
+    search = explore(book, budget, 0, hypothesis)
+    answer = ("refused", search.refusal) if search.refusal else ("admitted",) if search.kept else ("excluded",)
+    return Result(answer, search.nodes, [], "clean")
 
 
 def in_order(sets):
@@ -132,14 +154,15 @@ def in_front(tasks, agenda):
     return agenda
 
 
-def explore(book, budget, room):
-    """Visit the search tree."""
+def explore(book, budget, room, hypothesis=None):
+    """Visit the search tree. A hypothesis is wanted true ahead of the goal, and the first success, which alone is kept, ends the search."""
     clauses = [[c for c in book.clauses if c.head == p] for p in range(book.atoms)]
     bodies = [[c.body for c in of_p] for of_p in clauses]
     breaks = [[break_task(c) for c in of_p] for of_p in clauses]
     abducible = book.abducibles
     all_abducibles = (1 << abducible) - 1
-    root = in_front(book.goal + tuple(map(constraint_task, book.constraints)), None)
+    ahead = () if hypothesis is None else (2 * hypothesis,)
+    root = in_front(ahead + book.goal + tuple(map(constraint_task, book.constraints)), None)
 
     kept = []
     nodes = longest = 0
@@ -151,6 +174,8 @@ def explore(book, budget, room):
         nodes += 1
         longest = max(longest, path)
         if agenda is None:
+            if ahead:
+                return Search(0, nodes, longest, [true & all_abducibles])
             kept = keep(kept, true & all_abducibles)
             if len(kept) > room:
                 return Search(31, nodes, longest, [])
@@ -192,9 +217,13 @@ def keep(kept, s):
     return [k for k in kept if k & s != s] + [s]
 
 
-def smallest_by_trying(book):
-    """The smallest explaining sets in order, by trying every set of abducibles."""
-    explaining = [s for s in range(1 << book.abducibles) if explains(book, s)]
+def explaining_by_trying(book):
+    """The explaining sets, of any size, by trying every set of abducibles."""
+    return [s for s in range(1 << book.abducibles) if explains(book, s)]
+
+
+def smallest_of(explaining):
+    """Those of these sets that have no other one of them inside, in order."""
     return in_order(
         s for s in explaining if not any(t != s and t & s == t for t in explaining)
     )

@@ -21,6 +21,10 @@ P9 = image("abducible a b; goal x; x <- a b; x <- -a -b")
 P10 = image("abducible a b; p <- a; p ->; -> a")
 P11 = image("abducible saturday snow; goal campus; campus <- -ski; ski <- saturday -snow")
 
+# The story of paper 02, A3: kelp alone explains the group, kelp with rock does too but is not smallest.
+KELP = image("abducible kelp rock; goal group; group <- kelp")
+KELP_OR_BOTH = image("abducible kelp rock; goal group; group <- kelp; group <- kelp rock")
+
 # An image for each refusal of the reader.
 REFUSED = [
     (1, raw("01 0000")),
@@ -65,11 +69,11 @@ FULLEST = image(
 MOST_OPEN = image("abducible a b; goal b -y" + "; y <- a b" * 512 + "; a b ->" * 128)
 
 
-def pairs(count):
-    """So many atoms wanted, each from one of two abducibles: 2^count smallest sets."""
+def pairs(count, beside=""):
+    """So many atoms wanted, each from one of two abducibles: 2^count smallest sets. Beside them perhaps abducibles that nothing mentions."""
     names = range(count)
     return image(
-        "abducible " + " ".join(f"a{i} b{i}" for i in names)
+        "abducible " + " ".join(f"a{i} b{i}" for i in names) + f" {beside}"
         + "; goal " + " ".join(f"x{i}" for i in names)
         + "".join(f"; x{i} <- a{i}; x{i} <- b{i}" for i in names)
     )
@@ -80,6 +84,18 @@ def facts(counts):
     return image(
         "goal " + " ".join(f"x{i}" for i in range(len(counts)))
         + "".join(f"; x{i} <-" * count for i, count in enumerate(counts))
+    )
+
+
+def in_vain(counts, *behind):
+    """A wide search without a success, as `facts` with an atom without clauses at its end; then these clause bodies for the same goal.
+
+    With counts c, d and on, the first clause's child and what is below it have 1 + c (1 + d (1 + ..)) nodes. One abducible, a.
+    """
+    return image(
+        "abducible a; goal x; x <- " + " ".join(f"y{i}" for i in range(len(counts))) + " never"
+        + "".join(f"; x <- {body}" for body in behind)
+        + "".join(f"; y{i} <-" * count for i, count in enumerate(counts))
     )
 
 

@@ -313,6 +313,11 @@ def loops():
 CASES = [("every field", EVERY_FIELD, 0)] + FRONT + cuts() + changed() + BEHIND + loops()
 
 
+def tenth(turn):
+    """Every tenth of the refused ones: what the second search is given."""
+    return [case for case in CASES if case[2]][turn::10]
+
+
 def third(turn):
     """Every third of the refused ones: what judge, lister and verdict are given, so that each is given to one of them."""
     return [case for case in CASES if case[2]][turn::3]

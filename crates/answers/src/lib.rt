@@ -1,6 +1,7 @@
 // The line that tells the answer of each call, and what it left in lent memory.
 use book::Reading;
 use cases::output;
+use engine::Admission;
 use engine::Joined;
 use engine::Judgement;
 use engine::Listing;
@@ -49,6 +50,17 @@ pub fn verdict(image: &[u8], hypothesis: u32, budget: u32, sets: &mut [u64], wor
         Verdict::Refused(r, n) => output::searched(b"refused ", r as u32, n),
     }
     left(sets, work);
+}
+
+pub fn admits(image: &[u8], hypothesis: u32, budget: u32, work: &mut [u32]) {
+    match engine::admits(image, hypothesis, budget, work) {
+        Admission::Admitted(n) => output::count(b"admitted nodes ", n as u64),
+        Admission::Excluded(n) => output::count(b"excluded nodes ", n as u64),
+        Admission::Broken(r, place) => output::unsearched(r, place),
+        Admission::Refused(r, n) => output::searched(b"refused ", r as u32, n),
+    }
+    output::work_state(work);
+    output::end();
 }
 
 pub fn join(left: &[u64], right: &[u64], out: &mut [u64]) {

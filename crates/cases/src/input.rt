@@ -33,7 +33,7 @@ const IMAGE: usize = 16384;
 
 pub const ENTRIES: usize = 1100;
 
-const WORK: usize = 20000;
+pub const WORK: usize = 20000;
 
 // What every list entry and every work number is before a call.
 const ENTRY: u64 = 7;

@@ -9,6 +9,7 @@
 //                                           the first K are the list, and how the work area was left
 //   verdict FILE HYPOTHESIS BUDGET ROOM     unexplained | needed | possible | ruled out, ` nodes N` | refused R nodes N, then as
 //                                           for list
+//   admits FILE HYPOTHESIS BUDGET           admitted | excluded, ` nodes N` | refused R nodes N, then how the work area was left
 //   join ROOM                               joined K | refused R, then ` sets` and the room's entries; the two lists are on
 //                                           standard input, each a count of two bytes and its sets of eight, big-endian
 //   image TEXT ROOM                         written N bytes, the bytes in hex, rest untouched | refused R room untouched (crate rooms)
@@ -31,6 +32,8 @@ fn main() {
         jobs::list();
     } else if asked(b"verdict") {
         jobs::verdict();
+    } else if asked(b"admits") {
+        jobs::admits();
     } else if asked(b"join") {
         jobs::join();
     } else if asked(b"image") {

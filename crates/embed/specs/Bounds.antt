@@ -1,6 +1,6 @@
 -- How large the parts of each answer can be, by the promise of the call that gives it.
 -- Assumes nothing.
-use Prim.Native.Nat.{ℕ, _^_, _≤_}
+use Prim.Native.Nat.{ℕ, _+_, _^_, _≤_}
 use mathlib.Core.Path.{_≡_, refl, sym, subst}
 use mathlib.Core.Bool.{Bool, true, false}
 use mathlib.Core.List.{List, [], _∷_}
@@ -39,7 +39,12 @@ use Rattle.joiner.specs.declared.Joined.the-variants as joined
 use Rattle.lister.specs.paper.Promise.{mostBudget, Result, broken, turned, searched, byBook, resultOf, answerOf, Lists}
 use Rattle.lister.specs.declared.Listing.{Listing}
 use Rattle.lister.specs.declared.Listing.the-variants as list
-use Rattle.engine.specs.paper.Verdict.{named, asked, verdictResult, decided, verdictOf, Verdicts}
+use Rattle.searching.specs.paper.Seek.{Seeking, admitted, excluded, spent, sought}
+use Rattle.searching.specs.Admitted.{sought-within}
+use Rattle.admitting.specs.paper.Promise as admits
+use Rattle.admitting.specs.declared.Admission.{Admission}
+use Rattle.admitting.specs.declared.Admission.the-variants as admission
+use Rattle.engine.specs.paper.Verdict.{named, asked, verdictResult, secondOf, second, bySecond, decided, verdictOf, visited, Verdicts}
 use Rattle.engine.specs.declared.Verdict.{Verdict}
 use Rattle.engine.specs.declared.Verdict.the-variants as verdict
 use Rattle.area.specs.paper.Work.{workNumbers}
@@ -60,6 +65,10 @@ lastNumber = 31
 abbrev pub mostNodes : ℕ
 mostNodes = mostBudget
 
+-- and of two, one behind the other
+abbrev pub mostTwice : ℕ
+mostTwice = mostNodes + mostNodes
+
 -- a refusal's number
 pub record Refusal (m : ℕ) : Type 0 where
   pub some : 1 ≤ m
@@ -70,10 +79,10 @@ pub record Counts (k n : ℕ) : Type 0 where
   pub sets : k ≤ longest
   pub nodes : n ≤ mostNodes
 
--- a refusal's number and the nodes before it
+-- a refusal's number and the nodes before it, of one search or of two
 pub record RefusedAt (m n : ℕ) : Type 0 where
   pub number : Refusal m
-  pub nodes : n ≤ mostNodes
+  pub nodes : n ≤ mostTwice
 
 refusal : (m : ℕ) → 1 ≤ m → m ≤ lastNumber → Refusal m
 refusal m p q = record { some = p; most = q }
@@ -177,46 +186,105 @@ listing-within s budget sets work r sets′ work′ h =
     go (broken n at) k = k
     go (turned m) k = record { number = k; nodes = omega arith }
     go (searched (finished l n)) k = k
-    go (searched (used-up n)) k = record { number = refusal 30 (omega arith) (omega arith); nodes = k }
-    go (searched (no-room n)) k = record { number = refusal 31 (omega arith) (omega arith); nodes = k }
+    go (searched (used-up n)) k = record { number = refusal 30 (omega arith) (omega arith); nodes = omega (arith, k) }
+    go (searched (no-room n)) k = record { number = refusal 31 (omega arith) (omega arith); nodes = omega (arith, k) }
+
+-- ---- admits
+
+abbrev pub AdmissionWithin : Admission → Type 0
+AdmissionWithin (admission.Admitted n) = n ≤ mostNodes
+AdmissionWithin (admission.Excluded n) = n ≤ mostNodes
+AdmissionWithin (admission.Broken n at) = BrokenAt n at
+AdmissionWithin (admission.Refused m n) = RefusedAt m n
+
+-- the second search ends within its budget
+second-within : (b : Book) (h budget : ℕ) → budget ≤ mostNodes → visited (sought b h budget) ≤ mostNodes
+second-within b h budget low = go (sought b h budget) refl
+  where
+    go : (o : Seeking) → sought b h budget ≡ o → visited o ≤ mostNodes
+    go (admitted n) e = omega (arith, sought-within b h budget n .0 e .1)
+    go (excluded n) e = omega (arith, sought-within b h budget n .1 e .0)
+    go (spent n) e = omega (arith, sought-within b h budget n .2 e)
+
+pub admission-within : (s : List ℕ) (h budget : ℕ) (work : List ℕ) (r : Admission) (work′ : List ℕ) → admits.Admits s h budget work r work′ → AdmissionWithin r
+unfolding admits.resultOf
+admission-within s h budget work r work′ a = subst AdmissionWithin (sym (a .answer)) (go (decode s) refl)
+  where
+    space : ℕ
+    space = length work
+
+    told : (o : Seeking) → visited o ≤ mostNodes → AdmissionWithin (admits.answerOf (admits.searched o))
+    told (admitted n) k = k
+    told (excluded n) k = k
+    told (spent n) k = record { number = refusal 30 (omega arith) (omega arith); nodes = omega (arith, k) }
+
+    away : (m : ℕ) → 1 ≤ m → m ≤ lastNumber → AdmissionWithin (admission.Refused m 0)
+    away m p q = record { number = refusal m p q; nodes = omega arith }
+
+    go : (x : Decoded) → decode s ≡ x → AdmissionWithin (admits.answerOf (admits.byBook x h budget (length work)))
+    go (refused n at) e = by-reader s n at e
+    go (accepted b) e =
+        tested (λ (x : admits.Result). AdmissionWithin (admits.answerOf x)) (ltb (length work) workNumbers) (λ _. away 21 (omega arith) (omega arith))
+        (λ _. tested (λ (x : admits.Result). AdmissionWithin (admits.answerOf x)) (ltb mostNodes budget) (λ _. away 22 (omega arith) (omega arith))
+        (λ low. tested (λ (x : admits.Result). AdmissionWithin (admits.answerOf x)) (ltb h (b .abducibles))
+        (λ _. told (sought b h budget) (second-within b h budget (ltb-false mostNodes budget low)))
+        (λ _. away 23 (omega arith) (omega arith))))
 
 -- ---- verdict
 
 abbrev pub VerdictWithin : Verdict → Type 0
-VerdictWithin (verdict.Unexplained n) = n ≤ mostNodes
-VerdictWithin (verdict.Needed n) = n ≤ mostNodes
-VerdictWithin (verdict.Possible n) = n ≤ mostNodes
-VerdictWithin (verdict.RuledOut n) = n ≤ mostNodes
+VerdictWithin (verdict.Unexplained n) = n ≤ mostTwice
+VerdictWithin (verdict.Needed n) = n ≤ mostTwice
+VerdictWithin (verdict.Possible n) = n ≤ mostTwice
+VerdictWithin (verdict.RuledOut n) = n ≤ mostTwice
 VerdictWithin (verdict.Broken n at) = BrokenAt n at
 VerdictWithin (verdict.Refused m n) = RefusedAt m n
 
+-- a result that was searched came with an admitted budget
+low-budget : (s : List ℕ) (budget room space : ℕ) (o : Outcome) → resultOf s budget room space ≡ searched o → budget ≤ mostNodes
+unfolding resultOf
+low-budget s budget room space o e = go (decode s) e
+  where
+    tests : (t u : Bool) (v : Bool) (x : Outcome) → ltb mostNodes budget ≡ v → choose t (turned 20) (choose u (turned 21) (choose v (turned 22) (searched x))) ≡ searched o → budget ≤ mostNodes
+    tests true u v x i q = let z : _≡_ {A = ℕ} 0 1 = cc in absurd (omega arith)
+    tests false true v x i q = let z : _≡_ {A = ℕ} 0 1 = cc in absurd (omega arith)
+    tests false false true x i q = let z : _≡_ {A = ℕ} 0 1 = cc in absurd (omega arith)
+    tests false false false x i q = ltb-false mostNodes budget i
+
+    go : (d : Decoded) → byBook d room space budget ≡ searched o → budget ≤ mostNodes
+    go (refused n at) q = let z : _≡_ {A = ℕ} 0 1 = cc in absurd (omega arith)
+    go (accepted b) q = tests (ltb longest room) (ltb space workNumbers) (ltb mostNodes budget) (searchEnd b room budget) refl q
+
 pub verdict-within : (s : List ℕ) (h budget : ℕ) (sets work : List ℕ) (r : Verdict) (sets′ work′ : List ℕ)
     → Verdicts s h budget sets work r sets′ work′ → VerdictWithin r
-unfolding verdictResult
+unfolding verdictResult second
 verdict-within s h budget sets work r sets′ work′ v =
-    let room = length sets in
-    let space = length work in
     subst VerdictWithin (sym (v .answer))
-    (go (verdictResult s h budget room space) (ask (named (decode s) h) (resultOf s budget room space) (result-within s budget room space)))
+    (go (named (decode s) h) (resultOf s budget (length sets) (length work)) refl (result-within s budget (length sets) (length work)))
   where
-    ask : (t : Bool) (x : Result) → ResultWithin x → ResultWithin (asked t x)
-    ask t (broken n at) k = k
-    ask t (turned m) k = k
-    ask true (searched o) k = k
-    ask false (searched o) k = refusal 23 (omega arith) (omega arith)
+    later : (d : Decoded) → budget ≤ mostNodes → visited (secondOf d h budget) ≤ mostNodes
+    later (accepted b) low = second-within b h budget low
+    later (refused n at) low = omega arith
 
-    decides : (l : List ℕ) (n : ℕ) → n ≤ mostNodes → VerdictWithin (decided h l n)
-    decides [] n k = k
-    decides (d ∷ l) n k =
-        tested VerdictWithin (all (λ (x : ℕ). has x h) (d ∷ l)) (λ _. k)
-        (λ _. tested VerdictWithin (any (λ (x : ℕ). has x h) (d ∷ l)) (λ _. k) (λ _. k))
+    both : (n : ℕ) (x : Seeking) → n ≤ mostNodes → visited x ≤ mostNodes → VerdictWithin (bySecond n x)
+    both n (admitted m) k j = omega (arith, k, j)
+    both n (excluded m) k j = omega (arith, k, j)
+    both n (spent m) k j = record { number = refusal 30 (omega arith) (omega arith); nodes = omega (arith, k, j) }
 
-    go : (x : Result) → ResultWithin x → VerdictWithin (verdictOf h x)
-    go (broken n at) k = k
-    go (turned m) k = record { number = k; nodes = omega arith }
-    go (searched (finished l n)) k = decides l n (k .nodes)
-    go (searched (used-up n)) k = record { number = refusal 30 (omega arith) (omega arith); nodes = k }
-    go (searched (no-room n)) k = record { number = refusal 31 (omega arith) (omega arith); nodes = k }
+    decides : (l : List ℕ) (n : ℕ) (x : Seeking) → n ≤ mostNodes → visited x ≤ mostNodes → VerdictWithin (decided h l n x)
+    decides [] n x k j = omega (arith, k)
+    decides (d ∷ l) n x k j =
+        tested VerdictWithin (all (λ (y : ℕ). has y h) (d ∷ l)) (λ _. omega (arith, k))
+        (λ _. tested VerdictWithin (any (λ (y : ℕ). has y h) (d ∷ l)) (λ _. omega (arith, k)) (λ _. both n x k j))
+
+    go : (t : Bool) (x : Result) → resultOf s budget (length sets) (length work) ≡ x → ResultWithin x → VerdictWithin (verdictOf h (asked t x) (secondOf (decode s) h budget))
+    go t (broken n at) e k = k
+    go t (turned m) e k = record { number = k; nodes = omega arith }
+    go false (searched o) e k = record { number = refusal 23 (omega arith) (omega arith); nodes = omega arith }
+    go true (searched (finished l n)) e k =
+        decides l n (secondOf (decode s) h budget) (k .nodes) (later (decode s) (low-budget s budget (length sets) (length work) (finished l n) e))
+    go true (searched (used-up n)) e k = record { number = refusal 30 (omega arith) (omega arith); nodes = omega (arith, k) }
+    go true (searched (no-room n)) e k = record { number = refusal 31 (omega arith) (omega arith); nodes = omega (arith, k) }
 
 -- ---- join
 

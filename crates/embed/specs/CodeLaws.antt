@@ -16,6 +16,10 @@ use Rattle.lister.specs.declared.Listing.{Listing}
 use Rattle.lister.specs.declared.Listing.the-variants as listing
 use Rattle.lister.specs.paper.Promise.{Lists}
 use Rattle.lister.specs.PromiseLaws.{lists-unique}
+use Rattle.admitting.specs.declared.Admission.{Admission}
+use Rattle.admitting.specs.declared.Admission.the-variants as admission
+use Rattle.admitting.specs.paper.Promise.{Admits}
+use Rattle.admitting.specs.AdmitLaws.{admits-unique}
 use Rattle.engine.specs.declared.Verdict.{Verdict}
 use Rattle.engine.specs.declared.Verdict.the-variants as verdict
 use Rattle.engine.specs.paper.Verdict.{Verdicts}
@@ -29,8 +33,8 @@ use Rattle.image.specs.declared.Writing.the-variants as writing
 use Rattle.spelling.specs.paper.Document.{Document}
 use Rattle.spelling.specs.paper.Answer.{imageOf, nameLines, Writes}
 use Rattle.spelling.specs.Answers.{writes-unique}
-use Rattle.embed.specs.paper.Codes.{nodeCodes, kindCodes, falseGoal, brokenConstraint, judgeRefused, judgeBroken, listRefused, listBroken, needed, possible, ruledOut, verdictRefused, verdictBroken, brokenCode, readingCode, ReadingCode, judgementCode, JudgementCode, listingCode, ListingCode, verdictCode, VerdictCode, joinedCode, JoinedCode, writingCode, WritingCode}
-use Rattle.embed.specs.Bounds.{ReadingWithin, reading-within, JudgementWithin, judgement-within, ListingWithin, listing-within, VerdictWithin, verdict-within, JoinedWithin, joined-within, WritingWithin, Short, image-short, lines-short, writing-within}
+use Rattle.embed.specs.paper.Codes.{nodeCodes, kindCodes, falseGoal, brokenConstraint, judgeRefused, judgeBroken, listRefused, listBroken, excluded, admitsRefused, admitsBroken, needed, possible, ruledOut, verdictRefused, verdictBroken, brokenCode, readingCode, ReadingCode, judgementCode, JudgementCode, listingCode, ListingCode, admissionCode, AdmissionCode, verdictCode, VerdictCode, joinedCode, JoinedCode, writingCode, WritingCode}
+use Rattle.embed.specs.Bounds.{ReadingWithin, reading-within, JudgementWithin, judgement-within, ListingWithin, listing-within, AdmissionWithin, admission-within, VerdictWithin, verdict-within, JoinedWithin, joined-within, WritingWithin, Short, image-short, lines-short, writing-within}
 
 -- ---- two results that meet one of the promises are equal
 
@@ -46,6 +50,12 @@ pub listing-code-unique : (s : List ℕ) (budget : ℕ) (list area : List ℕ) (
 listing-code-unique s budget list area q r list₁ area₁ list₂ area₂ a b =
     let same = lists-unique s budget list area (a .answer) (b .answer) list₁ area₁ list₂ area₂ (a .lists) (b .lists) in
     (a .code ∙ ap listingCode (same .0) ∙ sym (b .code), same .1, same .2)
+
+pub admission-code-unique : (s : List ℕ) (h budget : ℕ) (area : List ℕ) (q r : ℕ) (area₁ area₂ : List ℕ)
+    → AdmissionCode s h budget area q area₁ → AdmissionCode s h budget area r area₂ → (q ≡ r) × (area₁ ≡ area₂)
+admission-code-unique s h budget area q r area₁ area₂ a b =
+    let same = admits-unique s h budget area (a .answer) (b .answer) area₁ area₂ (a .admits) (b .admits) in
+    (a .code ∙ ap admissionCode (same .0) ∙ sym (b .code), same .1)
 
 pub verdict-code-unique : (s : List ℕ) (h budget : ℕ) (list area : List ℕ) (q r : ℕ) (list₁ area₁ list₂ area₂ : List ℕ)
     → VerdictCode s h budget list area q list₁ area₁ → VerdictCode s h budget list area r list₂ area₂
@@ -124,6 +134,22 @@ listing-back (listing.Broken n at) w =
 listing-back (listing.Refused m n) w =
     told listing-at (listRefused + nodeCodes * m + n) 1 (nodeCodes * m + n) (omega arith) (omega arith) ∙ parted listing.Refused (nodeCodes * m + n) m n refl (omega arith)
 
+admission-at : ℕ → ℕ → Admission
+admission-at zero n = admission.Admitted n
+admission-at (suc zero) n = admission.Excluded n
+admission-at (suc (suc zero)) rest = admission.Refused (rest / nodeCodes) (rest % nodeCodes)
+admission-at (suc (suc (suc kind))) rest = admission.Broken (rest / nodeCodes) (rest % nodeCodes)
+
+admission-back : (r : Admission) → AdmissionWithin r → admission-at (admissionCode r / kindCodes) (admissionCode r % kindCodes) ≡ r
+unfolding admission-at
+admission-back (admission.Admitted n) w = told admission-at n 0 n (omega arith) (omega arith)
+admission-back (admission.Excluded n) w = told admission-at (excluded + n) 1 n (omega arith) (omega arith)
+admission-back (admission.Broken n at) w =
+    told admission-at (admitsBroken + brokenCode n at) 3 (brokenCode n at) (omega arith) (omega arith)
+    ∙ parted admission.Broken (brokenCode n at) n at refl (omega arith)
+admission-back (admission.Refused m n) w =
+    told admission-at (admitsRefused + nodeCodes * m + n) 2 (nodeCodes * m + n) (omega arith) (omega arith) ∙ parted admission.Refused (nodeCodes * m + n) m n refl (omega arith)
+
 verdict-at : ℕ → ℕ → Verdict
 verdict-at zero n = verdict.Unexplained n
 verdict-at (suc zero) n = verdict.Needed n
@@ -181,6 +207,13 @@ listing-code-tells s budget list area list₁ area₁ t budget′ list′ area�
     sym (listing-back a (listing-within s budget list area a list₁ area₁ p))
     ∙ ap (λ (x : ℕ). listing-at (x / kindCodes) (x % kindCodes)) e
     ∙ listing-back c (listing-within t budget′ list′ area′ c list₂ area₂ q)
+
+pub admission-code-tells : (s : List ℕ) (h budget : ℕ) (area area₁ : List ℕ) (t : List ℕ) (h′ budget′ : ℕ) (area′ area₂ : List ℕ) (a c : Admission)
+    → Admits s h budget area a area₁ → Admits t h′ budget′ area′ c area₂ → admissionCode a ≡ admissionCode c → a ≡ c
+admission-code-tells s h budget area area₁ t h′ budget′ area′ area₂ a c p q e =
+    sym (admission-back a (admission-within s h budget area a area₁ p))
+    ∙ ap (λ (x : ℕ). admission-at (x / kindCodes) (x % kindCodes)) e
+    ∙ admission-back c (admission-within t h′ budget′ area′ c area₂ q)
 
 pub verdict-code-tells : (s : List ℕ) (h budget : ℕ) (list area list₁ area₁ : List ℕ) (t : List ℕ) (h′ budget′ : ℕ) (list′ area′ list₂ area₂ : List ℕ) (a c : Verdict)
     → Verdicts s h budget list area a list₁ area₁ → Verdicts t h′ budget′ list′ area′ c list₂ area₂ → verdictCode a ≡ verdictCode c → a ≡ c

@@ -6,13 +6,14 @@ mod codes;
 use book::Reading;
 use codes::NODE_CODES;
 use codes::broken_code;
+use engine::Admission;
 use engine::Joined;
 use engine::Judgement;
 use engine::Listing;
 use engine::Verdict;
 use image::Writing;
 ghost use mathlib.Core.Path.{_≡_};
-ghost use Rattle.embed.specs.paper.Codes.{ReadingCode, JudgementCode, ListingCode, VerdictCode, JoinedCode, writingCode, WritingCode};
+ghost use Rattle.embed.specs.paper.Codes.{ReadingCode, JudgementCode, ListingCode, AdmissionCode, VerdictCode, JoinedCode, writingCode, WritingCode};
 ghost use Rattle.spelling.specs.paper.Answer.{imageOf, nameLines};
 
 // How many codes there are for a kind of answer, 2^56.
@@ -30,6 +31,12 @@ const JUDGE_BROKEN: u64 = 4 * KIND_CODES;
 const LIST_REFUSED: u64 = KIND_CODES;
 
 const LIST_BROKEN: u64 = 2 * KIND_CODES;
+
+const EXCLUDED: u64 = KIND_CODES;
+
+const ADMITS_REFUSED: u64 = 2 * KIND_CODES;
+
+const ADMITS_BROKEN: u64 = 3 * KIND_CODES;
 
 const NEEDED: u64 = KIND_CODES;
 
@@ -77,6 +84,23 @@ pub extern "C" fn wizogbare_list(
         Listing::Listed(k, n) => NODE_CODES * (k as u64) + n as u64,
         Listing::Broken(n, place) => LIST_BROKEN + broken_code(n, place),
         Listing::Refused(m, n) => LIST_REFUSED + NODE_CODES * (m as u64) + n as u64,
+    }
+}
+
+#[no_mangle]
+pub extern "C" fn wizogbare_admits(
+    image: &[u8],
+    hypothesis: u32,
+    budget: u32,
+    work: &mut [u32],
+) -> u64
+    ensures { λ r. ⌜ AdmissionCode (now (image .entry)) hypothesis budget (now (work .entry)) r (now (work .exit)) ⌝ }
+{
+    match engine::admits(image, hypothesis, budget, work) {
+        Admission::Admitted(n) => n as u64,
+        Admission::Excluded(n) => EXCLUDED + n as u64,
+        Admission::Broken(n, place) => ADMITS_BROKEN + broken_code(n, place),
+        Admission::Refused(m, n) => ADMITS_REFUSED + NODE_CODES * (m as u64) + n as u64,
     }
 }
 

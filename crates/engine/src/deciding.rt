@@ -1,4 +1,4 @@
-// The verdict on a hypothesis, from the sets of a finished listing.
+// What the sets of a finished listing settle of a hypothesis.
 
 ghost use mathlib.Core.Path.{_≡_};
 ghost use Prim.Native.Nat.{_≤_, _<_};
@@ -6,9 +6,16 @@ ghost use lib.ListN.{length, take};
 ghost use Rattle.base.specs.paper.Lists.{all, any};
 ghost use Rattle.image.specs.paper.Faults.{limits};
 ghost use Rattle.base.specs.paper.Members.{has};
-ghost use Rattle.engine.specs.paper.Verdict.{decided};
-use super::Verdict;
+ghost use Rattle.engine.specs.VerdictLaws.{settles};
 use sets::members::is_in;
+
+// What is settled, or that it is left open: there is a set, and none has the hypothesis.
+pub enum Settled {
+    Unexplained,
+    Needed,
+    Possible,
+    Open,
+}
 
 // Whether it is in each of the first `count` sets.
 pub fn in_every(sets: &[u64], count: usize, hypothesis: u32) -> bool
@@ -46,21 +53,21 @@ pub fn in_some(sets: &[u64], count: usize, hypothesis: u32) -> bool
     }
 }
 
-// The verdict by the first `count` sets.
-pub fn decide(sets: &[u64], count: u32, hypothesis: u32, nodes: u32) -> Verdict
+// What the first `count` sets settle.
+pub fn decide(sets: &[u64], count: u32, hypothesis: u32) -> Settled
     requires { ⌜ count ≤ length (now sets) ⌝ }
     requires { ⌜ hypothesis < limits .abducibles ⌝ }
-    ensures { λ r. ⌜ r ≡ decided hypothesis (take count (now (sets .entry))) nodes ⌝ }
+    ensures { λ r. ⌜ r ≡ settles hypothesis (take count (now (sets .entry))) ⌝ }
 {
     let n = count as usize;
     if count == 0 {
-        return Verdict::Unexplained(nodes);
+        return Settled::Unexplained;
     }
     if in_every(sets, n, hypothesis) {
-        return Verdict::Needed(nodes);
+        return Settled::Needed;
     }
     if in_some(sets, n, hypothesis) {
-        return Verdict::Possible(nodes);
+        return Settled::Possible;
     }
-    Verdict::RuledOut(nodes)
+    Settled::Open
 }

@@ -1,6 +1,7 @@
 // The engine's face: the calls of paper 01 on a rule book, each with its promise. No call has a `requires`: on all bytes and numbers
 // it ends with an answer or a numbered refusal. The promises stand in specs/paper of the crates that keep them. The reader is `book::read`.
 
+pub use admitting::Admission;
 use image::front;
 pub use joiner::Joined;
 pub use judging::Judgement;
@@ -8,9 +9,11 @@ use lister::Asked;
 pub use lister::Listing;
 ghost use Rattle.judging.specs.paper.Judged.{Judges};
 ghost use Rattle.lister.specs.paper.Promise.{Lists};
+ghost use Rattle.admitting.specs.paper.Promise.{Admits};
 ghost use Rattle.engine.specs.paper.Verdict.{Verdicts};
 ghost use Rattle.joiner.specs.paper.Join.{Joins};
 
+mod concluding;
 mod deciding;
 
 // The verdict, or a refusal's number, then the nodes; or the number of the image's own refusal, then its place.
@@ -39,8 +42,16 @@ pub fn list(image: &[u8], budget: u32, sets: &mut [u64], work: &mut [u32]) -> Li
     lister::list(image, budget, sets, work)
 }
 
-// Whether the hypothesis is needed, possible or ruled out by the list of smallest explanations, or nothing explains; or a refusal,
-// as of `list`, or 23 before any search.
+// Whether some explaining set, of any size, has the hypothesis, or none has, with the nodes of the search; or 1 to 9 with the place, 21, 22, 23,
+// 30 with the nodes.
+pub fn admits(image: &[u8], hypothesis: u32, budget: u32, work: &mut [u32]) -> Admission
+    ensures { λ r. ⌜ Admits (now (image .entry)) hypothesis budget (now (work .entry)) r (now (work .exit)) ⌝ }
+{
+    admitting::admits(image, hypothesis, budget, work)
+}
+
+// Whether the hypothesis is in every explaining set, in some or in none, or nothing explains: by the list of the smallest, and where that
+// does not settle it by a second search; or a refusal, as of `list`, 23 before any search, or 30 of the second.
 pub fn verdict_on(
     image: &[u8],
     hypothesis: u32,
@@ -60,7 +71,15 @@ pub fn verdict_on(
             match lister::list_book(image, budget, sets, work) {
                 Listing::Broken(number, place) => Verdict::Broken(number, place),
                 Listing::Refused(number, nodes) => Verdict::Refused(number, nodes),
-                Listing::Listed(count, nodes) => deciding::decide(sets, count, hypothesis, nodes),
+                Listing::Listed(count, nodes) => concluding::conclude(
+                    image,
+                    hypothesis,
+                    budget,
+                    sets,
+                    work,
+                    count,
+                    nodes,
+                ),
             }
         }
     }

@@ -89,6 +89,25 @@ pub fn verdict() {
     );
 }
 
+pub fn admits() {
+    let mut image = files::image_buffer();
+    let mut work = input::work_buffer();
+    let taken = files::take_file(FIRST, &mut image);
+    if !taken.ok {
+        return;
+    }
+    let hypothesis = numbers::take_number(SECOND);
+    if !hypothesis.ok {
+        return;
+    }
+    let budget = numbers::take_number(THIRD);
+    if !budget.ok {
+        return;
+    }
+    let n = taken.value;
+    answers::admits(&image[..n], hypothesis.value, budget.value, &mut work);
+}
+
 pub fn join() {
     let mut left = input::list_buffer();
     let mut right = input::list_buffer();

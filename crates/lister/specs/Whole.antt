@@ -40,28 +40,32 @@ run-nodes b room (suc k) (x ∷ xs) kept n =
     go true later h = omega arith
     go false later h = omega arith
 
-pub few-nodes : (image : List ℕ) (budget : ℕ) (kept : List ℕ) (r : Run) → Stopped image budget kept r → r .nodes ≤ budget
-few-nodes image budget kept r h = go (h .ending)
+pub few-nodes : {start : Book → Node} (image : List ℕ) (budget : ℕ) (kept : List ℕ) (r : Run) → Stopped start image budget kept r → r .nodes ≤ budget
+few-nodes {start} image budget kept r h = go (h .ending)
   where
-    at-most : (o : Outcome) → run-from (h .b) (length kept) budget (root (h .b)) ≡ o → nodesOf o ≤ budget
+    at-most : (o : Outcome) → run-from (h .b) (length kept) budget (start (h .b)) ≡ o → nodesOf o ≤ budget
     at-most o e =
-        let most = run-nodes (h .b) (length kept) budget (root (h .b) ∷ []) [] 0 in
+        let most = run-nodes (h .b) (length kept) budget (start (h .b) ∷ []) [] 0 in
         subst (λ (x : Outcome). nodesOf x ≤ budget) e (omega (arith, most))
 
-    go : Ending (h .b) budget kept r → r .nodes ≤ budget
+    go : Ending (run-from (h .b) (length kept) budget (start (h .b))) kept r → r .nodes ≤ budget
     go (all-visited i c o) = at-most _ o
     go (out-of-budget i o) = at-most _ o
     go (out-of-room i o) = at-most _ o
 
-module _ (image : List ℕ) (budget : ℕ) (old work kept : List ℕ) (run : Run) (stopped : Stopped image budget kept run) (same : length kept ≡ length old) where
+module _ (image : List ℕ) (budget : ℕ) (old work kept : List ℕ) (run : Run) (stopped : Stopped root image budget kept run) (same : length kept ≡ length old) where
+  -- what the rules' search gives from the root
+  abbrev gives : Outcome
+  gives = run-from (stopped .b) (length kept) budget (root (stopped .b))
+
   record Visited-all : Type 0 where
     few : run .count ≤ length kept
-    end : run-from (stopped .b) (length kept) budget (root (stopped .b)) ≡ finished (take (run .count) kept) (run .nodes)
+    end : gives ≡ finished (take (run .count) kept) (run .nodes)
 
   visited-all : run .state ≡ OVER → Visited-all
   visited-all e = go (stopped .ending)
     where
-      go : Ending (stopped .b) budget kept run → Visited-all
+      go : Ending gives kept run → Visited-all
       go (all-visited i c o) = record { few = c; end = o }
       go (out-of-budget i o) = absurd (omega (arith, i, e))
       go (out-of-room i o) = absurd (omega (arith, i, e))
@@ -87,7 +91,7 @@ module _ (image : List ℕ) (budget : ℕ) (old work kept : List ℕ) (run : Run
       → Searched image budget old work (Refused 30 (run .nodes)) sets₂ work₂
   ends-short sets₂ work₂ e p u = go (stopped .ending)
     where
-      go : Ending (stopped .b) budget kept run → Searched image budget old work (Refused 30 (run .nodes)) sets₂ work₂
+      go : Ending gives kept run → Searched image budget old work (Refused 30 (run .nodes)) sets₂ work₂
       go (all-visited i c o) = absurd (omega (arith, i, e))
       go (out-of-budget i o) = searched-short image budget old work kept run (stopped .b) (stopped .book) same sets₂ work₂ o (zeroed sets₂ p) u
       go (out-of-room i o) = absurd (omega (arith, i, e))
@@ -96,7 +100,7 @@ module _ (image : List ℕ) (budget : ℕ) (old work kept : List ℕ) (run : Run
       → Searched image budget old work (Refused 31 (run .nodes)) sets₂ work₂
   ends-full sets₂ work₂ d e p u = go (stopped .ending)
     where
-      go : Ending (stopped .b) budget kept run → Searched image budget old work (Refused 31 (run .nodes)) sets₂ work₂
+      go : Ending gives kept run → Searched image budget old work (Refused 31 (run .nodes)) sets₂ work₂
       go (all-visited i c o) = absurd (d i)
       go (out-of-budget i o) = absurd (e i)
       go (out-of-room i o) = searched-full image budget old work kept run (stopped .b) (stopped .book) same sets₂ work₂ o (zeroed sets₂ p) u

@@ -1,25 +1,26 @@
--- The search as a whole: each step keeps the one equation, that the rules' search from the root ends as it does from here; and the last
--- step's answer is the rules'.
+-- The search as a whole: each step keeps the one equation, that the rules' search gives from here what it is to give; and the last step's
+-- outcome is the rules'.
 -- Assumes nothing.
 use Prim.Native.Nat.{ℕ, zero, suc, _+_, _-_, _≤_, _<_}
 use native.Mathlib.Omega.{arith}
-use mathlib.Core.Path.{_≡_, refl, sym, ap, ap₂, subst, _∙_}
+use mathlib.Core.Path.{_≡_, refl, sym, ap, ap₂, subst, subst₂, _∙_}
 use mathlib.Core.List.{List, [], _∷_, _++_}
-use lib.ListN.{length, take, length-take}
+use lib.ListN.{length, take, drop, length-take}
 use borrow.Author.Tests.{lt-ltb, le-ltb}
 use Rattle.base.specs.Bools.{choose-true, choose-false}
 use Rattle.image.specs.paper.Book.{Lit, Book}
 use Rattle.sets.specs.paper.Kept.{insert}
 use Rattle.image.specs.paper.Decode.{litOf}
-use Rattle.searching.specs.paper.Rules.{Task, want, pick, Node, root, children, after, assumed, finished, no-room, run-from}
+use Rattle.searching.specs.paper.Rules.{Task, want, pick, Node, children, after, assumed, Outcome, finished, no-room}
 use Rattle.searching.specs.paper.Rules
+use Rattle.area.specs.Area as layout
 use Rattle.memory.specs.declared.run.Run.{Run}
 use Rattle.memory.specs.States.{TASK, AGENDA, LIST, WAY, FAILED, OVER, SPENT, Passing}
 use Rattle.memory.specs.Machine.{nodeOf, literal, record-at, last, Holds, HandIn, in-hand}
 use Rattle.memory.specs.Pieces.{inState, counting}
 use Rattle.visit.specs.Node.{counting-holds}
 use Rattle.memory.specs.Contracts.{Standing, Moved, StandingIn, Moves, Backed, back-to, over, Visited, Tasked, Success, SuccessKept, inserted, full, Went, visits}
-use Rattle.machine.specs.Contracts.{Onward, Placed, Searching, Ending, all-visited, out-of-budget, out-of-room, State, goes-on, ended, Somewhere, Passes, Stepped, ahead, Stopped}
+use Rattle.machine.specs.Contracts.{Onward, Placed, Searching, Ending, all-visited, out-of-budget, out-of-room, State, goes-on, ended, Somewhere, Passes, Stepped, ahead}
 
 -- ---- the rules' search, one node at a time
 
@@ -58,13 +59,15 @@ working {run = run} {all} h e = go (in-hand h e)
     go : HandIn h OVER (run .task) (run .agenda) all → ⊥
     go = elim [ ]
 
-not-ended : (b : Book) (budget : ℕ) (sets : List ℕ) (run : Run) (n : ℕ) → Ending b budget sets run → run .state ≡ n → Passing n → ⊥
-not-ended b budget sets run n (all-visited e c a) i p = omega (arith, e, i)
-not-ended b budget sets run n (out-of-budget e a) i p = omega (arith, e, i)
-not-ended b budget sets run n (out-of-room e a) i p = omega (arith, e, i)
+not-ended : {outcome : Outcome} (sets : List ℕ) (run : Run) (n : ℕ) → Ending outcome sets run → run .state ≡ n → Passing n → ⊥
+not-ended sets run n (all-visited e c a) i p = omega (arith, e, i)
+not-ended sets run n (out-of-budget e a) i p = omega (arith, e, i)
+not-ended sets run n (out-of-room e a) i p = omega (arith, e, i)
 
 -- a move keeps the equation
-moved-on : (image : List ℕ) (budget : ℕ) (sets work : List ℕ) (run : Run) (work′ : List ℕ) (run′ : Run) (n : ℕ) → Moved image work run work′ run′ n → Searching image budget sets work run → Searching image budget sets work′ run′
+moved-on : {outcome : Outcome} (image : List ℕ) (budget : ℕ) (sets work : List ℕ) (run : Run) (work′ : List ℕ) (run′ : Run) (n : ℕ)
+    → Moved image work run work′ run′ n
+    → Searching image budget outcome sets work run → Searching image budget outcome sets work′ run′
 moved-on image budget sets work run work′ run′ n m h = record {
   b = h .b;
   all = h .all;
@@ -81,53 +84,57 @@ moved-on image budget sets work run work′ run′ n m h = record {
 pub somewhere-stands : (work : List ℕ) (run : Run) (n : ℕ) → Passing n → Somewhere work run n → run .state ≡ n → StandingIn work run n
 somewhere-stands work run n h p e = go (p .state)
   where
-    go : State (p .image) (p .budget) (p .sets) work run n (p .low) → StandingIn work run n
+    go : State (p .image) (p .budget) (p .outcome) (p .sets) work run n (p .low) → StandingIn work run n
     go (goes-on x i k) = (p .image, record { b = x .b; all = x .all; holds = x .holds; state = e })
-    go (ended b i x k) = absurd (not-ended b (p .budget) (p .sets) run n x e h)
+    go (ended x k) = absurd (not-ended (p .sets) run n x e h)
 
 pub passes-moved : (work : List ℕ) (run : Run) (m : ℕ) (work′ : List ℕ) (run′ : Run) (n : ℕ) → Passing m → run .state ≡ m → Moves work run work′ run′ n → Passes work run m work′ run′ n
 passes-moved work run m work′ run′ n h e f = record {
-  next = λ image budget sets low x. go image budget sets low x;
+  next = λ image budget outcome sets low x. go image budget sets low x;
   later = f [] .later;
 }
   where
-    go : (image : List ℕ) (budget : ℕ) (sets : List ℕ) (low : ℕ) → State image budget sets work run m low → State image budget sets work′ run′ n low
+    go : {outcome : Outcome} (image : List ℕ) (budget : ℕ) (sets : List ℕ) (low : ℕ) → State image budget outcome sets work run m low
+        → State image budget outcome sets work′ run′ n low
     go image budget sets low (goes-on x i k) = goes-on (moved-on image budget sets work run work′ run′ n (f image) x) (f image .state) (omega (arith, f image .nodes))
-    go image budget sets low (ended b i x k) = absurd (not-ended b budget sets run m x e h)
+    go image budget sets low (ended x k) = absurd (not-ended sets run m x e h)
 
 pub passes-same : (work : List ℕ) (run : Run) (m n : ℕ) → m ≡ suc n → (run .state ≡ m → ⊥) → Passes work run m work run n
-passes-same work run m n j e = record { next = λ image budget sets low x. go image budget sets low x; later = refl }
+passes-same work run m n j e = record { next = λ image budget outcome sets low x. go image budget sets low x; later = refl }
   where
-    go : (image : List ℕ) (budget : ℕ) (sets : List ℕ) (low : ℕ) → State image budget sets work run m low → State image budget sets work run n low
+    go : {outcome : Outcome} (image : List ℕ) (budget : ℕ) (sets : List ℕ) (low : ℕ) → State image budget outcome sets work run m low
+        → State image budget outcome sets work run n low
     go image budget sets low (goes-on x i k) = goes-on x (omega (arith, e)) k
-    go image budget sets low (ended b i x k) = ended b i x k
+    go image budget sets low (ended x k) = ended x k
 
 -- a way more for `back`: nothing is left
 pub passes-backed : (work : List ℕ) (run : Run) (work′ : List ℕ) (run′ : Run) → run .state ≡ FAILED → Backed work run work′ run′ → Passes work run FAILED work′ run′ WAY
 passes-backed work run work′ run′ e (back-to f) = record {
-  next = λ image budget sets low x. go image budget sets low x;
+  next = λ image budget outcome sets low x. go image budget sets low x;
   later = f [] .later;
 }
   where
-    go : (image : List ℕ) (budget : ℕ) (sets : List ℕ) (low : ℕ) → State image budget sets work run FAILED low → State image budget sets work′ run′ WAY low
+    go : {outcome : Outcome} (image : List ℕ) (budget : ℕ) (sets : List ℕ) (low : ℕ) → State image budget outcome sets work run FAILED low
+        → State image budget outcome sets work′ run′ WAY low
     go image budget sets low (goes-on x i k) = goes-on (moved-on image budget sets work run work′ run′ LIST (f image) x) (omega (arith, f image .state)) (omega (arith, f image .nodes))
-    go image budget sets low (ended b i x k) = absurd (not-ended b budget sets run FAILED x e (omega arith, omega arith))
+    go image budget sets low (ended x k) = absurd (not-ended sets run FAILED x e (omega arith, omega arith))
 passes-backed work run work′ run′ e (over f j p) =
     subst (λ (l : List ℕ). Passes work run FAILED l run′ WAY) (sym j)
-    (subst (λ (o : Run). Passes work run FAILED work o WAY) (sym p) (record { next = λ image budget sets low x. go image budget sets low x; later = refl }))
+    (subst (λ (o : Run). Passes work run FAILED work o WAY) (sym p) (record { next = λ image budget outcome sets low x. go image budget sets low x; later = refl }))
   where
-    go : (image : List ℕ) (budget : ℕ) (sets : List ℕ) (low : ℕ) → State image budget sets work run FAILED low → State image budget sets work (inState run OVER) WAY low
-    go image budget sets low (goes-on x i k) =
+    go : {outcome : Outcome} (image : List ℕ) (budget : ℕ) (sets : List ℕ) (low : ℕ) → State image budget outcome sets work run FAILED low
+        → State image budget outcome sets work (inState run OVER) WAY low
+    go {outcome} image budget sets low (goes-on x i k) =
         let none : x .all ≡ [] = f image (x .b) (x .all) (x .holds) in
-        let o : run-from (x .b) (length sets) budget (root (x .b)) ≡ finished (take (run .count) sets) (run .nodes) =
+        let o : outcome ≡ finished (take (run .count) sets) (run .nodes) =
         x .answer ∙ ap (λ (l : List Node). Rules.run (x .b) (length sets) (budget - run .nodes) l (take (run .count) sets) (run .nodes)) none
         ∙ run-none (x .b) (length sets) (budget - run .nodes) (take (run .count) sets) (run .nodes) in
-        ended (x .b) (x .holds .ground .book) (all-visited refl (x .count) o) (omega arith)
-    go image budget sets low (ended b i x k) = absurd (not-ended b budget sets run FAILED x e (omega arith, omega arith))
+        ended (all-visited refl (x .count) o) (omega arith)
+    go image budget sets low (ended x k) = absurd (not-ended sets run FAILED x e (omega arith, omega arith))
 
 -- ---- a node
 
-module _ (image : List ℕ) (budget : ℕ) (sets work : List ℕ) (run : Run) (searching : Searching image budget sets work run) (st : run .state ≡ TASK) where
+module _ {image : List ℕ} {budget : ℕ} {outcome : Outcome} {sets work : List ℕ} {run : Run} (searching : Searching image budget outcome sets work run) (st : run .state ≡ TASK) where
   -- what is due begins with the node in hand
   record Due : Type 0 where
     x : Node
@@ -156,7 +163,7 @@ module _ (image : List ℕ) (budget : ℕ) (sets work : List ℕ) (run : Run) (s
 
   -- the rules' search, with one node more to visit
   start : (run .nodes ≡ budget → ⊥)
-      → run-from (searching .b) (length sets) budget (root (searching .b)) ≡ Rules.run (searching .b) (length sets) (suc (budget - (run .nodes + 1))) (due-node .x ∷ due-node .rest) (take (run .count) sets) (run .nodes)
+      → outcome ≡ Rules.run (searching .b) (length sets) (suc (budget - (run .nodes + 1))) (due-node .x ∷ due-node .rest) (take (run .count) sets) (run .nodes)
   start n =
       let left : budget - run .nodes ≡ suc (budget - (run .nodes + 1)) = omega (arith, before n) in
       searching .answer ∙ ap₂ (λ (k : ℕ) (l : List Node). Rules.run (searching .b) (length sets) k l (take (run .count) sets) (run .nodes)) left (due-node .is)
@@ -164,13 +171,13 @@ module _ (image : List ℕ) (budget : ℕ) (sets work : List ℕ) (run : Run) (s
   one-more : suc (run .nodes) ≡ run .nodes + 1
   one-more = omega arith
 
-  went-short : run .nodes ≡ budget → State image budget sets work (inState run SPENT) FAILED (suc (run .nodes))
+  went-short : run .nodes ≡ budget → State image budget outcome sets work (inState run SPENT) FAILED (suc (run .nodes))
   went-short n =
       let spent : budget - run .nodes ≡ 0 = omega (arith, n) in
-      let o : run-from (searching .b) (length sets) budget (root (searching .b)) ≡ Rules.used-up (run .nodes) =
+      let o : outcome ≡ Rules.used-up (run .nodes) =
       searching .answer ∙ ap₂ (λ (k : ℕ) (l : List Node). Rules.run (searching .b) (length sets) k l (take (run .count) sets) (run .nodes)) spent (due-node .is)
       ∙ run-short (searching .b) (length sets) (due-node .x) (due-node .rest) (take (run .count) sets) (run .nodes) in
-      ended (searching .b) (searching .holds .ground .book) (out-of-budget refl o) (omega arith)
+      ended (out-of-budget refl o) (omega arith)
 
   run-some : (x : Node) (rest : List Node) (m : ℕ) (kept : List ℕ) (n : ℕ) → (x .agenda ≡ [] → ⊥) → length kept ≤ length sets
       → Rules.run (searching .b) (length sets) (suc m) (x ∷ rest) kept n ≡ Rules.run (searching .b) (length sets) m (children (searching .b) x ++ rest) kept (suc n)
@@ -183,10 +190,11 @@ module _ (image : List ℕ) (budget : ℕ) (sets work : List ℕ) (run : Run) (s
           subst (λ (y : Node). Rules.run (searching .b) (length sets) (suc m) (y ∷ rest) kept n ≡ Rules.run (searching .b) (length sets) m (children (searching .b) y ++ rest) kept (suc n)) (sym is)
           (run-task (searching .b) (length sets) m t ts (x .sheet) rest kept n g)
 
-  went-task : (work′ : List ℕ) (run′ : Run) → (run .nodes ≡ budget → ⊥) → Visited work (counting run) work′ run′ → State image budget sets work′ run′ FAILED (suc (run .nodes))
+  went-task : (work′ : List ℕ) (run′ : Run) → (run .nodes ≡ budget → ⊥) → Visited work (counting run) work′ run′
+      → State image budget outcome sets work′ run′ FAILED (suc (run .nodes))
   went-task work′ run′ n a =
       let kept : length (take (run .count) sets) ≤ length sets = omega (arith, length-take (run .count) sets) in
-      let o : run-from (searching .b) (length sets) budget (root (searching .b)) ≡ Rules.run (searching .b) (length sets) (budget - run′ .nodes) (children (searching .b) (due-node .x) ++ due-node .rest) (take (run′ .count) sets) (run′ .nodes) =
+      let o : outcome ≡ Rules.run (searching .b) (length sets) (budget - run′ .nodes) (children (searching .b) (due-node .x) ++ due-node .rest) (take (run′ .count) sets) (run′ .nodes) =
       start n
       ∙ run-some (due-node .x) (due-node .rest) (budget - (run .nodes + 1)) (take (run .count) sets) (run .nodes) (a .some image (searching .b) (due-node .x) (due-node .rest) at-counted) kept
       ∙ same (children (searching .b) (due-node .x) ++ due-node .rest) (run′ .nodes) (run′ .count) (omega (arith, a .nodes)) (omega (arith, a .nodes)) (sym (a .count)) in
@@ -206,38 +214,37 @@ module _ (image : List ℕ) (budget : ℕ) (sets work : List ℕ) (run : Run) (s
           → Rules.run (searching .b) (length sets) (budget - (run .nodes + 1)) l (take (run .count) sets) (suc (run .nodes)) ≡ Rules.run (searching .b) (length sets) (budget - m) l (take c sets) m
       same l m c p q i = rw (p, q, i)
 
-  went-success : (after : List ℕ) (run′ : Run) → (run .nodes ≡ budget → ⊥) → Success work (counting run) → SuccessKept sets (counting run) after run′ → State image budget after work run′ FAILED (suc (run .nodes))
+  went-success : (after : List ℕ) (run′ : Run) → (run .nodes ≡ budget → ⊥) → Success work (counting run) → SuccessKept sets (counting run) after run′
+      → State image budget outcome after work run′ FAILED (suc (run .nodes))
   went-success after run′ n a c = go c
     where
       node : due-node .x ≡ nodeOf [] (due-node .x .sheet)
       node = ap (λ (l : List Task). nodeOf l (due-node .x .sheet)) (a .ends image (searching .b) (due-node .x) (due-node .rest) at-counted)
 
-      begin : run-from (searching .b) (length sets) budget (root (searching .b))
+      begin : outcome
           ≡ Rules.run (searching .b) (length sets) (suc (budget - (run .nodes + 1))) (nodeOf [] (due-node .x .sheet) ∷ due-node .rest) (take (run .count) sets) (run .nodes)
       begin = start n ∙ ap (λ (y : Node). Rules.run (searching .b) (length sets) (suc (budget - (run .nodes + 1))) (y ∷ due-node .rest) (take (run .count) sets) (run .nodes)) node
 
       chosen : insert (take (run .count) sets) (run .set) ≡ insert (take (run .count) sets) (assumed (searching .b) (due-node .x .sheet))
       chosen = ap (insert (take (run .count) sets)) (a .chosen image (searching .b) (due-node .x) (due-node .rest) at-counted)
 
-      go : SuccessKept sets (counting run) after run′ → State image budget after work run′ FAILED (suc (run .nodes))
+      go : SuccessKept sets (counting run) after run′ → State image budget outcome after work run′ FAILED (suc (run .nodes))
       go (full p l i) =
-          let o : run-from (searching .b) (length sets) budget (root (searching .b)) ≡ no-room (suc (run .nodes)) =
+          let o : outcome ≡ no-room (run .nodes + 1) =
           begin
-          ∙ run-full (searching .b) (length sets) (budget - (run .nodes + 1)) (due-node .x .sheet) (due-node .rest) (take (run .count) sets) (run .nodes) (subst (λ (z : List ℕ). length sets < length z) chosen p) in
-          let o′ : run-from (searching .b) (length after) budget (root (searching .b)) ≡ no-room (run .nodes + 1) =
-          ap (λ (m : ℕ). run-from (searching .b) m budget (root (searching .b))) l ∙ o ∙ ap no-room one-more in
-          subst (λ (p : Run). State image budget after work p FAILED (suc (run .nodes))) (sym i)
-          (ended (searching .b) (searching .holds .ground .book) (out-of-room refl o′) (omega arith))
+          ∙ run-full (searching .b) (length sets) (budget - (run .nodes + 1)) (due-node .x .sheet) (due-node .rest) (take (run .count) sets) (run .nodes)
+          (subst (λ (z : List ℕ). length sets < length z) chosen p)
+          ∙ ap no-room one-more in
+          subst (λ (p : Run). State image budget outcome after work p FAILED (suc (run .nodes))) (sym i)
+          (ended (out-of-room refl o) (omega arith))
       go (inserted m c p t l i) =
-          let o : run-from (searching .b) (length sets) budget (root (searching .b))
-          ≡ Rules.run (searching .b) (length sets) (budget - (run .nodes + 1)) (due-node .rest) (insert (take (run .count) sets) (assumed (searching .b) (due-node .x .sheet))) (suc (run .nodes)) =
+          let o : outcome ≡ Rules.run (searching .b) (length after) (budget - (run .nodes + 1)) (due-node .rest) (take m after) (run .nodes + 1) =
           begin
-          ∙ run-room (searching .b) (length sets) (budget - (run .nodes + 1)) (due-node .x .sheet) (due-node .rest) (take (run .count) sets) (run .nodes) (omega (arith, c, p, ap length chosen)) in
-          let o′ : run-from (searching .b) (length after) budget (root (searching .b)) ≡ Rules.run (searching .b) (length after) (budget - (run .nodes + 1)) (due-node .rest) (take m after) (run .nodes + 1) =
-          ap (λ (z : ℕ). run-from (searching .b) z budget (root (searching .b))) l ∙ o
+          ∙ run-room (searching .b) (length sets) (budget - (run .nodes + 1)) (due-node .x .sheet) (due-node .rest) (take (run .count) sets) (run .nodes)
+          (omega (arith, c, p, ap length chosen))
           ∙ ap₂ (λ (z : List ℕ) (y : ℕ). Rules.run (searching .b) (length sets) (budget - (run .nodes + 1)) (due-node .rest) z y) (sym (t ∙ chosen)) one-more
           ∙ ap (λ (z : ℕ). Rules.run (searching .b) z (budget - (run .nodes + 1)) (due-node .rest) (take m after) (run .nodes + 1)) (sym l) in
-          subst (λ (p : Run). State image budget after work p FAILED (suc (run .nodes))) (sym i)
+          subst (λ (p : Run). State image budget outcome after work p FAILED (suc (run .nodes))) (sym i)
           (goes-on
           (record {
             b = searching .b;
@@ -246,82 +253,108 @@ module _ (image : List ℕ) (budget : ℕ) (sets work : List ℕ) (run : Run) (s
             nodes = omega (arith, before n);
             count = omega (arith, p, l);
             entries = omega (arith, searching .entries, l);
-            answer = o′;
+            answer = o;
           })
           (omega arith) (omega arith))
 
-  pub stepped-visit : (after work′ : List ℕ) (run′ : Run) → Went budget sets work run after work′ run′ → Stepped image budget sets work run after work′ run′ FAILED
-  stepped-visit after work′ run′ (Went.used-up n i j e) =
-      subst (λ (l : List ℕ). Stepped image budget sets work run l work′ run′ FAILED) (sym i)
-      (subst (λ (l : List ℕ). Stepped image budget sets work run sets l run′ FAILED) (sym j)
-      (subst (λ (o : Run). Stepped image budget sets work run sets work o FAILED) (sym e) (record { next = went-short n; later = refl })))
-  stepped-visit after work′ run′ (visits n a i) =
-      subst (λ (l : List ℕ). Stepped image budget sets work run l work′ run′ FAILED) (sym i) (record { next = went-task work′ run′ n a; later = a .later })
-  stepped-visit after work′ run′ (Went.succeeds n a c j) =
-      subst (λ (l : List ℕ). Stepped image budget sets work run after l run′ FAILED) (sym j) (record { next = went-success after run′ n a c; later = refl })
+  went-on : (after work′ : List ℕ) (run′ : Run) → Went budget sets work run after work′ run′ → State image budget outcome after work′ run′ FAILED (suc (run .nodes))
+  went-on after work′ run′ (Went.used-up n i j e) =
+      subst (λ (l : List ℕ). State image budget outcome l work′ run′ FAILED (suc (run .nodes))) (sym i)
+      (subst₂ (λ (l : List ℕ) (o : Run). State image budget outcome sets l o FAILED (suc (run .nodes))) (sym j) (sym e) (went-short n))
+  went-on after work′ run′ (visits n a i) =
+      subst (λ (l : List ℕ). State image budget outcome l work′ run′ FAILED (suc (run .nodes))) (sym i) (went-task work′ run′ n a)
+  went-on after work′ run′ (Went.succeeds n a c j) =
+      subst (λ (l : List ℕ). State image budget outcome after l run′ FAILED (suc (run .nodes))) (sym j) (went-success after run′ n a c)
 
 -- ---- a step
 
 module _ {image : List ℕ} {budget : ℕ} {sets work : List ℕ} {run : Run} where
-  pub stepped-somewhere : {after work′ : List ℕ} {run′ : Run} {n : ℕ} → Stepped image budget sets work run after work′ run′ n → Somewhere work′ run′ n
-  stepped-somewhere {after} p = record { image = image; budget = budget; sets = after; low = suc (run .nodes); state = p .next }
+  pub stepped-visit : {after work′ : List ℕ} {run′ : Run} → run .state ≡ TASK → Went budget sets work run after work′ run′
+      → Stepped image budget sets work run after work′ run′ FAILED
+  stepped-visit {after} {work′} {run′} st w = record { next = λ outcome searching. went-on searching st after work′ run′ w; later = go w }
+    where
+      go : Went budget sets work run after work′ run′ → drop layout.end work′ ≡ drop layout.end work
+      go (Went.used-up n i j e) = ap (drop layout.end) j
+      go (visits n a i) = a .later
+      go (Went.succeeds n a c j) = ap (drop layout.end) j
+
+  pub stepped-somewhere : {outcome : Outcome} {after work′ : List ℕ} {run′ : Run} {n : ℕ} → Searching image budget outcome sets work run
+      → Stepped image budget sets work run after work′ run′ n → Somewhere work′ run′ n
+  stepped-somewhere {outcome} {after} h p = record { image = image; budget = budget; outcome = outcome; sets = after; low = suc (run .nodes); state = p .next outcome h }
 
   pub stepped-passes : {after work′ work″ : List ℕ} {run′ run″ : Run} {m n : ℕ} → Stepped image budget sets work run after work′ run′ m → Passes work′ run′ m work″ run″ n → Stepped image budget sets work run after work″ run″ n
-  stepped-passes {after} p x = record { next = x .next image budget after (suc (run .nodes)) (p .next); later = x .later ∙ p .later }
+  stepped-passes {after} p x = record { next = λ outcome h. x .next image budget outcome after (suc (run .nodes)) (p .next outcome h); later = x .later ∙ p .later }
+
+  pub stepped-placed : {outcome : Outcome} {after work′ : List ℕ} {run′ : Run} {n : ℕ} → Searching image budget outcome sets work run
+      → Stepped image budget sets work run after work′ run′ n → Placed image work′ run′ n
+  stepped-placed {outcome} {after} h p = record { budget = budget; outcome = outcome; sets = after; low = suc (run .nodes); state = p .next outcome h }
+
+  pub stepped-onward : {after work′ : List ℕ} {run′ run″ : Run} → Stepped image budget sets work run after work′ run′ AGENDA
+      → Onward image work′ run′ run″ → Stepped image budget sets work run after work′ run″ TASK
+  stepped-onward {after} p x = record { next = λ outcome h. x .next budget outcome after (suc (run .nodes)) (p .next outcome h); later = p .later }
 
 pub placed-standing : (image work : List ℕ) (run : Run) → Placed image work run AGENDA → run .state ≡ AGENDA → Standing image work run AGENDA
 placed-standing image work run p e = go (p .state)
   where
-    go : State image (p .budget) (p .sets) work run AGENDA (p .low) → Standing image work run AGENDA
+    go : State image (p .budget) (p .outcome) (p .sets) work run AGENDA (p .low) → Standing image work run AGENDA
     go (goes-on x i k) = record { b = x .b; all = x .all; holds = x .holds; state = e }
-    go (ended b i x k) = absurd (not-ended b (p .budget) (p .sets) run AGENDA x e (omega arith, omega arith))
+    go (ended x k) = absurd (not-ended (p .sets) run AGENDA x e (omega arith, omega arith))
 
 pub onward-moved : (image work : List ℕ) (run run′ : Run) → run .state ≡ AGENDA → Moved image work run work run′ TASK → Onward image work run run′
-onward-moved image work run run′ e m = record { next = λ budget sets low x. go budget sets low x }
+onward-moved image work run run′ e m = record { next = λ budget outcome sets low x. go budget sets low x }
   where
-    go : (budget : ℕ) (sets : List ℕ) (low : ℕ) → State image budget sets work run AGENDA low → State image budget sets work run′ TASK low
+    go : {outcome : Outcome} (budget : ℕ) (sets : List ℕ) (low : ℕ) → State image budget outcome sets work run AGENDA low
+        → State image budget outcome sets work run′ TASK low
     go budget sets low (goes-on x i k) = goes-on (moved-on image budget sets work run work run′ TASK m x) (m .state) (omega (arith, m .nodes))
-    go budget sets low (ended b i x k) = absurd (not-ended b budget sets run AGENDA x e (omega arith, omega arith))
+    go budget sets low (ended x k) = absurd (not-ended sets run AGENDA x e (omega arith, omega arith))
 
 pub onward-same : (image work : List ℕ) (run : Run) → (run .state ≡ AGENDA → ⊥) → Onward image work run run
-onward-same image work run e = record { next = λ budget sets low x. go budget sets low x }
+onward-same image work run e = record { next = λ budget outcome sets low x. go budget sets low x }
   where
-    go : (budget : ℕ) (sets : List ℕ) (low : ℕ) → State image budget sets work run AGENDA low → State image budget sets work run TASK low
+    go : {outcome : Outcome} (budget : ℕ) (sets : List ℕ) (low : ℕ) → State image budget outcome sets work run AGENDA low
+        → State image budget outcome sets work run TASK low
     go budget sets low (goes-on x i k) =
         let one : run .state ≡ OVER → ⊥ = working (x .holds) in
         goes-on x (omega (arith, e, one)) k
-    go budget sets low (ended b i x k) = ended b i x k
-
-pub stepped-placed : {image : List ℕ} {budget : ℕ} {sets work after work′ : List ℕ} {run run′ : Run} {n : ℕ} → Stepped image budget sets work run after work′ run′ n → Placed image work′ run′ n
-stepped-placed {budget = budget} {after = after} {run = run} p = record { budget = budget; sets = after; low = suc (run .nodes); state = p .next }
-
-pub stepped-onward : {image : List ℕ} {budget : ℕ} {sets work after work′ : List ℕ} {run run′ run″ : Run} → Stepped image budget sets work run after work′ run′ AGENDA → Onward image work′ run′ run″ → Stepped image budget sets work run after work′ run″ TASK
-stepped-onward {budget = budget} {after = after} {run = run} p x = record { next = x .next budget after (suc (run .nodes)) (p .next); later = p .later }
+    go budget sets low (ended x k) = ended x k
 
 -- ---- the whole
 
-pub still-searching : (image : List ℕ) (budget : ℕ) (sets work : List ℕ) (run : Run) (low : ℕ) → State image budget sets work run TASK low → run .state ≡ TASK → Searching image budget sets work run
-still-searching image budget sets work run low (goes-on x i k) e = x
-still-searching image budget sets work run low (ended b i (all-visited y c a) k) e = absurd (omega (arith, y, e))
-still-searching image budget sets work run low (ended b i (out-of-budget y a) k) e = absurd (omega (arith, y, e))
-still-searching image budget sets work run low (ended b i (out-of-room y a) k) e = absurd (omega (arith, y, e))
+-- an end is told by a run's state, nodes and count alone
+pub ending-told : {outcome : Outcome} (sets : List ℕ) (run run′ : Run) → run′ .state ≡ run .state → run′ .nodes ≡ run .nodes → run′ .count ≡ run .count
+    → Ending outcome sets run → Ending outcome sets run′
+ending-told sets run run′ s n c (all-visited e l o) =
+    all-visited (s ∙ e) (omega (arith, l, c)) (o ∙ ap₂ (λ (k m : ℕ). finished (take k sets) m) (sym c) (sym n))
+ending-told sets run run′ s n c (out-of-budget e o) = out-of-budget (s ∙ e) (o ∙ ap Rules.used-up (sym n))
+ending-told sets run run′ s n c (out-of-room e o) = out-of-room (s ∙ e) (o ∙ ap no-room (sym n))
 
-pub stopped-ending : (image : List ℕ) (budget : ℕ) (sets work : List ℕ) (run : Run) (low : ℕ) → State image budget sets work run TASK low → (run .state ≡ TASK → ⊥) → Stopped image budget sets run
-stopped-ending image budget sets work run low (goes-on x i k) n = absurd (n (omega arith))
-stopped-ending image budget sets work run low (ended b i x k) n = record { b = b; book = i; ending = x }
+module _ {image : List ℕ} {budget : ℕ} {outcome : Outcome} where
+  pub still-searching : {sets work : List ℕ} {run : Run} {low : ℕ} → State image budget outcome sets work run TASK low → run .state ≡ TASK
+      → Searching image budget outcome sets work run
+  still-searching (goes-on x i k) e = x
+  still-searching (ended (all-visited y c a) k) e = absurd (omega (arith, y, e))
+  still-searching (ended (out-of-budget y a) k) e = absurd (omega (arith, y, e))
+  still-searching (ended (out-of-room y a) k) e = absurd (omega (arith, y, e))
 
-pub state-lower : (image : List ℕ) (budget : ℕ) (sets work : List ℕ) (run : Run) (low : ℕ) → State image budget sets work run TASK low → State image budget sets work run TASK 0
-state-lower image budget sets work run low (goes-on x i k) = goes-on x i (omega arith)
-state-lower image budget sets work run low (ended b i x k) = ended b i x (omega arith)
+  pub state-ending : {sets work : List ℕ} {run : Run} {low : ℕ} → State image budget outcome sets work run TASK low → (run .state ≡ TASK → ⊥)
+      → Ending outcome sets run
+  state-ending (goes-on x i k) n = absurd (n (omega arith))
+  state-ending (ended x k) n = x
 
-pub started : (image : List ℕ) (budget : ℕ) (sets work : List ℕ) (run run′ : Run) → Searching image budget sets work run → Moved image work run work run′ TASK → State image budget sets work run′ TASK 0
-started image budget sets work run run′ h m = goes-on (moved-on image budget sets work run work run′ TASK m h) (m .state) (omega arith)
+  pub state-lower : {sets work : List ℕ} {run : Run} {low : ℕ} → State image budget outcome sets work run TASK low → State image budget outcome sets work run TASK 0
+  state-lower (goes-on x i k) = goes-on x i (omega arith)
+  state-lower (ended x k) = ended x (omega arith)
 
-ahead-falls : (image : List ℕ) (budget : ℕ) (after work′ : List ℕ) (run run′ : Run) → run .nodes ≤ budget → run .state ≡ TASK → State image budget after work′ run′ TASK (suc (run .nodes)) → ahead budget run′ < ahead budget run
-ahead-falls image budget after work′ run run′ h z (goes-on x i k) = omega (arith, x .nodes)
-ahead-falls image budget after work′ run run′ h z (ended b i (all-visited y c a) k) = omega (arith, y)
-ahead-falls image budget after work′ run run′ h z (ended b i (out-of-budget y a) k) = omega (arith, y)
-ahead-falls image budget after work′ run run′ h z (ended b i (out-of-room y a) k) = omega (arith, y)
+  pub started : {sets work : List ℕ} {run : Run} → Searching image budget outcome sets work run → run .state ≡ TASK → State image budget outcome sets work run TASK 0
+  started h e = goes-on h (omega (arith, e)) (omega arith)
 
-pub stepped-falls : {image : List ℕ} {budget : ℕ} {sets work after work′ : List ℕ} {run run′ : Run} → Searching image budget sets work run → run .state ≡ TASK → Stepped image budget sets work run after work′ run′ TASK → ahead budget run′ < ahead budget run
-stepped-falls {image} {budget} {after = after} {work′} {run} {run′} h z p = ahead-falls image budget after work′ run run′ (h .nodes) z (p .next)
+  ahead-falls : {after work′ : List ℕ} {run′ : Run} (run : Run) → run .nodes ≤ budget → run .state ≡ TASK
+      → State image budget outcome after work′ run′ TASK (suc (run .nodes)) → ahead budget run′ < ahead budget run
+  ahead-falls run h z (goes-on x i k) = omega (arith, x .nodes)
+  ahead-falls run h z (ended (all-visited y c a) k) = omega (arith, y)
+  ahead-falls run h z (ended (out-of-budget y a) k) = omega (arith, y)
+  ahead-falls run h z (ended (out-of-room y a) k) = omega (arith, y)
+
+  pub stepped-falls : {sets work after work′ : List ℕ} {run run′ : Run} → Searching image budget outcome sets work run → run .state ≡ TASK
+      → Stepped image budget sets work run after work′ run′ TASK → ahead budget run′ < ahead budget run
+  stepped-falls {run = run} h z p = ahead-falls run (h .nodes) z (p .next outcome h)

@@ -1,9 +1,11 @@
 // The search, step by step, from where it stands to its end.
+use area::END;
 use frames::back;
 use frames::choose;
 use memory::agenda::enter;
 use memory::agenda::front;
 use memory::run::AGENDA;
+use memory::run::Agenda;
 use memory::run::FAILED;
 use memory::run::LIST;
 use memory::run::Run;
@@ -12,7 +14,7 @@ use memory::run::WAY;
 use visit::visit;
 ghost use mathlib.Core.Path.{_≡_};
 ghost use Rattle.memory.specs.States.{TASK, AGENDA, LIST, WAY, FAILED};
-ghost use Rattle.machine.specs.Contracts.{Searching, Somewhere, Passes, Stepped, Walked, Placed, Onward};
+ghost use Rattle.machine.specs.Contracts.{Ready, Somewhere, Passes, Stepped, Walked, Placed, Onward};
 
 // A node that failed goes back.
 fn after_failure(work: &mut [u32], r: Run) -> Run
@@ -60,7 +62,7 @@ fn after_agenda(image: &[u8], work: &[u32], r: Run) -> Run
 
 // A node, up to the next task.
 fn step(image: &[u8], budget: usize, sets: &mut [u64], work: &mut [u32], r: Run) -> Run
-    requires { ⌜ Searching (now image) budget (now sets) (now work) r × (r .state ≡ TASK) ⌝ }
+    requires { ⌜ Ready (now image) budget (now sets) (now work) r ⌝ }
     ensures { λ q. ⌜ Stepped (now (image .entry)) budget (now (sets .entry)) (now (work .entry)) r (now (sets .exit)) (now (work .exit)) q TASK ⌝ }
 {
     let visited = visit(budget, sets, work, r);
@@ -70,13 +72,35 @@ fn step(image: &[u8], budget: usize, sets: &mut [u64], work: &mut [u32], r: Run)
     after_agenda(image, work, entered)
 }
 
-pub fn walk_on(image: &[u8], budget: usize, sets: &mut [u64], work: &mut [u32], start: Run) -> Run
-    requires { ⌜ Searching (now image) budget (now sets) (now work) start × (start .state ≡ AGENDA) ⌝ }
-    ensures { λ q. ⌜ Walked (now (image .entry)) budget (now (sets .entry)) (now (work .entry)) (now (sets .exit)) (now (work .exit)) q ⌝ }
+// What counts of a run that has ended. The rest is dropped: to hand it out too would cost the loop 7 instructions in a hundred.
+fn ended(r: Run) -> Run
+    ensures { λ q. ⌜ (q .state ≡ r .state) × (q .nodes ≡ r .nodes) × (q .count ≡ r .count) ⌝ }
 {
-    let mut r = front(image, work, start);
+    Run {
+        state: r.state,
+        task: 0,
+        agenda: Agenda {
+            at: 0,
+            end: 0,
+            link: 0,
+        },
+        marked: 0,
+        top: 0,
+        nodes: r.nodes,
+        count: r.count,
+        set: 0,
+    }
+}
+
+// From the first task to the end; and the work area is cleared.
+pub fn walk(image: &[u8], budget: usize, sets: &mut [u64], work: &mut [u32], first: Run) -> Run
+    requires { ⌜ Ready (now image) budget (now sets) (now work) first ⌝ }
+    ensures { λ q. ⌜ Walked (now (image .entry)) budget (now (sets .entry)) (now (work .entry)) first (now (sets .exit)) (now (work .exit)) q ⌝ }
+{
+    let mut r = first;
     while r.state == TASK {
         r = step(image, budget, sets, work, r);
     }
-    r
+    area::wipe(work, END);
+    ended(r)
 }

@@ -76,6 +76,28 @@ pub fn verdict_case() -> bool {
     true
 }
 
+pub fn admits_case() -> bool {
+    let mut image = input::image_buffer();
+    let mut work = input::work_buffer();
+    let taken = input::take_image(&mut image);
+    let hypothesis = input::take_number();
+    let budget = input::take_number();
+    let space = input::take_length(input::WORK);
+    if !(hypothesis.ok && budget.ok) {
+        return false;
+    }
+    if !taken.ok {
+        return false;
+    }
+    if !space.ok {
+        return false;
+    }
+    let n = taken.value;
+    let w = space.value;
+    answers::admits(&image[..n], hypothesis.value, budget.value, &mut work[..w]);
+    true
+}
+
 pub fn join_case() -> bool {
     let mut left = input::list_buffer();
     let mut right = input::list_buffer();

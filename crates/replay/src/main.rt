@@ -16,8 +16,11 @@
 //                                                               written N bytes HEX rest untouched | rest other;
 //                                                               refused R room untouched | room other (crate rooms)
 //  12 names   as for 6                                          as for 6
+//  13 admits  image, hypothesis (four), budget (four), work length (four)
+//                                                               admitted nodes N | excluded nodes N | refused R nodes N, then
+//                                                               ` work ..` as for 3
 //
-// What an operation does is in crate operations for 1 to 5, and in crate rooms for 6 and 12.
+// What an operation does is in crate operations for 1 to 5 and 13, and in crate rooms for 6 and 12.
 
 use cases::input;
 use cases::output;
@@ -32,6 +35,7 @@ fn answered(operation: u64) -> bool {
         5 => operations::join_case(),
         6 => rooms::text_case(),
         12 => rooms::names_case(),
+        13 => operations::admits_case(),
         _ => false,
     }
 }

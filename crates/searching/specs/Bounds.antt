@@ -21,6 +21,7 @@ use Rattle.image.specs.Sound.{Known, Orderly}
 use Rattle.meaning.specs.paper.Meaning.{abducible, clausesFor}
 use Rattle.meaning.specs.Model.{for-clause}
 use Rattle.searching.specs.paper.Rules.{opposite, opposites, Task, want, pick, break, keep, Node, root, on, unfolds, opens}
+use Rattle.searching.specs.paper.Seek.{rootWith}
 use Rattle.searching.specs.Results.{∈-on, ∉-off, Result, gone, joins, picks, Child, child}
 use Rattle.searching.specs.paper.Tree.{weight, marked, potential}
 use Rattle.searching.specs.TreeLaws.{unmarked, falls, opposites-length, wants-weight}
@@ -175,6 +176,10 @@ module _ (book : Book) (orderly : Orderly book) where
       (every-map (Named book) keep (book .constraints)
       (λ k m. every-both (opposites-known book (k .conditions) (orderly .conditions-known k m)) (orderly .alternatives-known k m)))
 
+  -- and where a hypothesis is wanted ahead of it,
+  pub with-named : (h : ℕ) → h < book .abducibles → Every (Named book) (rootWith book h .agenda)
+  with-named h p = every-more (omega (arith, p, orderly .assumable)) root-named
+
   -- and so at each child.
   pub child-named : {n c : Node} → Every (Named book) (n .agenda) → Child book n c → Every (Named book) (c .agenda)
   child-named h (child r) = every-both (result-named (every-first h) r) (every-rest h)
@@ -224,6 +229,11 @@ root-frames b =
       length-below (b .atoms),
       clauses-once (b .atoms) (b .clauses),
     )
+
+-- A hypothesis wanted ahead of it costs nothing more.
+pub with-frames : (b : Book) (h : ℕ) → frames b (rootWith b h) ≤ length (b .constraints) + b .atoms + length (b .clauses)
+unfolding frames
+with-frames b h = omega (arith, root-frames b)
 
 -- With the limits of paper 01, 3.4 no path from the root has more than 2,704 steps, of which no more than 896 must be held.
 pub path-bound : (b : Book) → Orderly b → b .atoms ≤ 256 → length (b .goal) ≤ 16 → length (b .clauses) ≤ 512 → sum (λ (c : Clause). length (c .body)) (b .clauses) ≤ 1024

@@ -7,5 +7,7 @@ pub mod Sheets
 pub mod Successes
 pub mod Outcomes
 pub mod Main
+pub mod Explaining
+pub mod Admitted
 pub mod Bounds
 pub mod Examples

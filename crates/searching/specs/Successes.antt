@@ -120,6 +120,10 @@ module _ (book : Book) where
       go n ih (inl q) = subst (λ (m : Node). Ends book (x .sheet) m) q (success-ends x e)
       go n ih (inr w) = ends-up (child-of book n (w .1)) (ih (w .0) (w .1) (w .2))
 
+  -- A success has done every task of each node that it stands below.
+  pub success-done : (n x : Node) → x ∈ visits book n → Success x → Every (Done (On (x .sheet))) (n .agenda)
+  success-done n x m e = ends x e n m .done
+
   -- Every success below a start gives an accepted sheet.
   pub success-accepted : (n x : Node) → Start book n → x ∈ visits book n → Success x → Accepted book (x .sheet)
   success-accepted n x start m e = record {

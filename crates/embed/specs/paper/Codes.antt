@@ -1,4 +1,4 @@
--- The answers as one number each, for callers in C. Of judge, list and verdict each kind of answer has 2^56 codes of its own, and among
+-- The answers as one number each, for callers in C. Of judge, list, admits and verdict each kind of answer has 2^56 codes of its own, and among
 -- them a count, or a refusal's number that comes with nodes, stands above the 2^32 codes of the nodes; the number of an image's own refusal
 -- stands above its place, and a refusal of join, text or names above their counts, in the same way.
 --
@@ -13,6 +13,10 @@
 --   list      Listed k n           2^32 * k + n
 --             Refused m n          2^56 + 2^32 * m + n
 --             Broken n p           2 * 2^56 + 2^32 * n + p
+--   admits    Admitted n           n
+--             Excluded n           2^56 + n
+--             Refused m n          2 * 2^56 + 2^32 * m + n
+--             Broken n p           3 * 2^56 + 2^32 * n + p
 --   verdict   Unexplained n        n
 --             Needed n             2^56 + n
 --             Possible n           2 * 2^56 + n
@@ -36,6 +40,9 @@ use Rattle.judging.specs.paper.Judged.{Judges}
 use Rattle.lister.specs.declared.Listing.{Listing}
 use Rattle.lister.specs.declared.Listing.the-variants as listing
 use Rattle.lister.specs.paper.Promise.{Lists}
+use Rattle.admitting.specs.declared.Admission.{Admission}
+use Rattle.admitting.specs.declared.Admission.the-variants as admission
+use Rattle.admitting.specs.paper.Promise.{Admits}
 use Rattle.engine.specs.declared.Verdict.{Verdict}
 use Rattle.engine.specs.declared.Verdict.the-variants as verdict
 use Rattle.engine.specs.paper.Verdict.{Verdicts}
@@ -73,6 +80,15 @@ listRefused = kindCodes
 
 abbrev pub listBroken : ℕ
 listBroken = 2 * kindCodes
+
+abbrev pub excluded : ℕ
+excluded = kindCodes
+
+abbrev pub admitsRefused : ℕ
+admitsRefused = 2 * kindCodes
+
+abbrev pub admitsBroken : ℕ
+admitsBroken = 3 * kindCodes
 
 abbrev pub needed : ℕ
 needed = kindCodes
@@ -125,6 +141,17 @@ pub record ListingCode (s : List ℕ) (budget : ℕ) (list area : List ℕ) (r :
   pub answer : Listing
   pub lists : Lists s budget list area answer list′ area′
   pub code : r ≡ listingCode answer
+
+abbrev pub admissionCode : Admission → ℕ
+admissionCode (admission.Admitted n) = n
+admissionCode (admission.Excluded n) = excluded + n
+admissionCode (admission.Broken n at) = admitsBroken + brokenCode n at
+admissionCode (admission.Refused m n) = admitsRefused + nodeCodes * m + n
+
+pub record AdmissionCode (s : List ℕ) (h budget : ℕ) (area : List ℕ) (r : ℕ) (area′ : List ℕ) : Type 0 where
+  pub answer : Admission
+  pub admits : Admits s h budget area answer area′
+  pub code : r ≡ admissionCode answer
 
 abbrev pub verdictCode : Verdict → ℕ
 verdictCode (verdict.Unexplained n) = n

@@ -1,15 +1,12 @@
--- `engine::verdict_on` meets its promise: a refusal before any search, one of the listing, or the verdict by its list.
+-- `engine::verdict_on` meets its promise: a refusal before any search, one of the listing, or what is concluded from it.
 -- Assumes nothing.
 use Prim.Native.Nat.{_<_}
-use mathlib.Core.Path.{sym, subst}
 use native.Mathlib.Omega.{arith}
 use lib.ListN.{length}
 use Rattle.image.specs.Shown.{shown, shown-front}
 use Rattle.image.specs.Accepted.{bookIn}
 use Rattle.lister.specs.PromiseLaws.{Admitted, may-search}
-use Rattle.engine.specs.paper.Verdict.{Verdicts}
-use Rattle.engine.specs.VerdictLaws.{verdict-broken, verdict-early, verdict-unnamed, by-listing, hypothesis-small, lists-count, verdict-refused, verdict-at-fault, verdict-listed}
-use Rattle.engine.specs.declared.Verdict.{Verdict}
+use Rattle.engine.specs.VerdictLaws.{verdict-broken, verdict-early, verdict-unnamed, by-listing, lists-count, lists-nodes, lists-cleared, verdict-refused, verdict-at-fault, verdict-listed}
 use borrow.Author.Needs.{needs}
 use Rattle.engine.proofs.verdict_on.Statement.{statement}
 use Rattle.engine.proofs.verdict_on.Tie as tie
@@ -37,11 +34,22 @@ known m =
 list-book-requires : tie.Need-list-book-requires
 list-book-requires c κs = admitted (c .before .before .before .before)
 
-decide-requires : tie.Need-decide-requires
-decide-requires c κs =
-    let m = c .before .before .before .before .before .before .before .before in (
-      lists-count _ _ _ _ _ _ _ (m .list-book .ensures) _ _ (c .before .before .count .given .1),
-      hypothesis-small _ _ _ _ _ (admitted (m .before .before .before .before .before)) (known (m .before .before)),
+conclude-requires : tie.Need-conclude-requires
+conclude-requires c κs =
+    let m = c .before .before .before .before .before .before .before .before .before in
+    let a = admitted (m .before .before .before .before .before) in
+    let listed = c .before .before .before .count .given .1 in (
+      record {
+        seekable = record {
+          book = a .book;
+          abducible = known (m .before .before);
+          long = omega (arith, a .long, m .list-book .kept .1 .1 .1 .0);
+          low = a .low;
+        };
+        few = omega (arith, a .low, lists-nodes _ _ _ _ _ _ _ (m .list-book .ensures) a _ _ listed);
+        cleared = lists-cleared _ _ _ _ _ _ _ (m .list-book .ensures) a;
+      },
+      lists-count _ _ _ _ _ _ _ (m .list-book .ensures) _ _ listed,
     )
 
 returns-2 : tie.Need-returns-2
@@ -64,13 +72,11 @@ returns-5 c =
 
 returns-6 : tie.Need-returns-6
 returns-6 c =
-    let m = c .before .before .before .before .before .before .before .before .before in
-    let a = m .before .before .before .before .before .before .before .before .before .before .before .args in
-    subst
-    (λ (q : Verdict). Verdicts (a .image .now) (a .hypothesis) (a .budget) (a .sets .now) (a .work .now) q (m .list-book .last .1 .1 .0) (m .list-book .last .1 .1 .1 .0))
-    (sym (c .decide .ensures))
-    (verdict-listed _ _ _ _ _ _ _ (by-listing _ _ _ _ _ (admitted (m .before .before .before .before .before)) (known (m .before .before)))
-    _ (m .list-book .ensures) _ _ (c .before .before .before .count .given .1))
+    let done = c .before .before .before .before in
+    let m = done .before .before .before .before .before .before .before .before .before .before in
+    let a = admitted (m .before .before .before .before .before) in
+    verdict-listed _ _ _ _ _ _ _ (by-listing _ _ _ _ _ a (known (m .before .before))) _ (m .list-book .ensures) a (known (m .before .before)) (m .list-book .kept .1 .1 .0)
+    _ _ (done .before .before .before .before .count .given .1) _ _ _ (done .conclude .ensures)
 
 pub verdict-on-spec : {M : Type 1} → statement M
 verdict-on-spec =
@@ -86,7 +92,7 @@ verdict-on-spec =
     (λ c. search needs)
     (λ c. search needs)
     (λ c. search needs)
-    decide-requires
+    conclude-requires
     returns-2
     returns-3
     (λ c. search needs)

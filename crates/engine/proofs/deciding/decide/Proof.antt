@@ -5,8 +5,7 @@ use mathlib.Core.Path.{_≡_, sym, ap, _∙_}
 use lib.ListN.{length, take}
 use lib.Seq.{length-take-le}
 use Rattle.base.specs.Bools.{choose-true, choose-false}
-use Rattle.engine.specs.paper.Verdict.{decided}
-use Rattle.engine.specs.VerdictLaws.{decided-by}
+use Rattle.engine.specs.VerdictLaws.{settles, settles-by}
 use borrow.Author.Needs.{needs}
 use Rattle.engine.proofs.deciding.decide.Statement.{statement}
 use Rattle.engine.proofs.deciding.decide.Tie as tie
@@ -14,7 +13,7 @@ use Rattle.engine.proofs.deciding.decide.Tie as tie
 returns : tie.Need-returns
 returns c =
     let a = c .before .before .args in
-    sym (ap (λ (k : ℕ). decided (a .hypothesis) (take k (a .sets .now)) (a .nodes)) (c .if1 .taken))
+    sym (ap (λ (k : ℕ). settles (a .hypothesis) (take k (a .sets .now))) (c .if1 .taken))
 
 -- the list that is looked at, and that it is not empty
 abbrev front : tie.Else1 → List ℕ
@@ -27,14 +26,14 @@ returns-2 : tie.Need-returns-2
 returns-2 c =
     let m = c .before .before in
     sym
-    (decided-by (m .before .before .args .hypothesis) (front m) (m .before .before .args .nodes) (some m)
+    (settles-by (m .before .before .args .hypothesis) (front m) (some m)
     ∙ choose-true _ _ (sym (c .before .in-every .ensures) ∙ c .if2 .taken))
 
 returns-3 : tie.Need-returns-3
 returns-3 c =
     let m = c .before .before .before .before in
     sym
-    (decided-by (m .before .before .args .hypothesis) (front m) (m .before .before .args .nodes) (some m)
+    (settles-by (m .before .before .args .hypothesis) (front m) (some m)
     ∙ choose-false _ _ (sym (c .before .before .before .in-every .ensures) ∙ c .before .before .if2 .left)
     ∙ choose-true _ _ (sym (c .before .in-some .ensures) ∙ c .if3 .taken))
 
@@ -42,7 +41,7 @@ returns-4 : tie.Need-returns-4
 returns-4 c =
     let m = c .before .before .before .before in
     sym
-    (decided-by (m .before .before .args .hypothesis) (front m) (m .before .before .args .nodes) (some m)
+    (settles-by (m .before .before .args .hypothesis) (front m) (some m)
     ∙ choose-false _ _ (sym (c .before .before .before .in-every .ensures) ∙ c .before .before .if2 .left)
     ∙ choose-false _ _ (sym (c .before .in-some .ensures) ∙ c .if3 .left))
 

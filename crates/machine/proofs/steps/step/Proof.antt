@@ -19,12 +19,16 @@ failure c = c .before .before .before .before
 abbrev ways : tie.After-after-list → tie.After-after-ways
 ways c = c .before .before .before .before
 
+-- and its start
+abbrev start : tie.After-visit → tie.Start
+start c = c .before .before .before .before .before .before
+
 -- the step has come to a state of n at the most
 abbrev Come : tie.After-visit → List ℕ → Run → ℕ → Type 0
-Come c = let a = c .before .before .before .before .before .before .args in Stepped (a .image .now) (a .budget) (a .sets .now) (a .work .now) (a .r) (c .visit .last .1 .0)
+Come c = let a = start c .args in Stepped (a .image .now) (a .budget) (a .sets .now) (a .work .now) (a .r) (c .visit .last .1 .0)
 
 visited : (c : tie.After-visit) → Come c (c .visit .last .1 .1 .0) (c .visit .result) FAILED
-visited c = let p = c .before .before .before .before .before .before .pre in stepped-visit _ _ _ _ _ (p .0) (p .1) _ _ _ (c .visit .ensures)
+visited c = stepped-visit (start c .pre .state) (c .visit .ensures)
 
 returned : (c : tie.After-after-failure) → Come (visit c) (c .after-failure .last .0) (c .after-failure .result) WAY
 returned c = stepped-passes (visited (visit c)) (c .after-failure .ensures)
@@ -36,19 +40,21 @@ entered : (c : tie.After-after-list) → Come (visit (failure (ways c))) (c .aft
 entered c = stepped-passes (chosen (ways c)) (c .after-list .ensures)
 
 visit-requires : tie.Need-visit-requires
-visit-requires c κs = let p = c .before .before .before .before .before .pre in (searching-tasked _ _ _ _ _ (p .0) (p .1), p .0 .nodes, p .0 .count, p .0 .entries)
+visit-requires c κs =
+    let p = c .before .before .before .before .before .pre in
+    (searching-tasked (p .searching) (p .state), p .searching .nodes, p .searching .count, p .searching .entries)
 
 after-failure-requires : tie.Need-after-failure-requires
-after-failure-requires c κs = stepped-somewhere (visited (c .before .before .before .before .before))
+after-failure-requires c κs = let m = c .before .before .before .before .before in stepped-somewhere (start m .pre .searching) (visited m)
 
 after-ways-requires : tie.Need-after-ways-requires
-after-ways-requires c κs = stepped-somewhere (returned (c .before .before .before))
+after-ways-requires c κs = let m = c .before .before .before in stepped-somewhere (start (visit m) .pre .searching) (returned m)
 
 after-list-requires : tie.Need-after-list-requires
-after-list-requires c κs = stepped-somewhere (chosen (c .before .before .before))
+after-list-requires c κs = let m = c .before .before .before in stepped-somewhere (start (visit (failure m)) .pre .searching) (chosen m)
 
 after-agenda-requires : tie.Need-after-agenda-requires
-after-agenda-requires c κs = stepped-placed (entered (c .before .before .before))
+after-agenda-requires c κs = let m = c .before .before .before in stepped-placed (start (visit (failure (ways m))) .pre .searching) (entered m)
 
 same-length : tie.Need-same-length
 same-length c = visit (failure (ways (c .before .before .before .before))) .visit .kept .1 .0

@@ -1,0 +1,3 @@
+-- The promise of `admits`, and the ways to it.
+pub mod paper
+pub mod AdmitLaws

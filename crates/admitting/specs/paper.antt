@@ -1,0 +1,2 @@
+-- What must be believed: the promise of `admits`.
+pub mod Promise
