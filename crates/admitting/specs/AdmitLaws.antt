@@ -4,7 +4,7 @@ use Prim.Native.Nat.{ℕ, _≤_, _<_}
 use native.Mathlib.Omega.{arith}
 use mathlib.Core.Path.{_≡_, refl, sym, ap, subst, _∙_}
 use mathlib.Core.Bool.{Bool, true, false}
-use mathlib.Core.List.{List, [], _++_}
+use mathlib.Core.List.{List, _++_}
 use borrow.Author.Tests.{lt-ltb, le-ltb}
 use lib.Dec.{ltb}
 use lib.ListN.{length, drop}
@@ -19,9 +19,8 @@ use Rattle.searching.specs.paper.Seek.{rootWith, Seeking, admitted, excluded, s
 use Rattle.searching.specs.Admitted.{told, sought-run, sought-within, admitted-some, excluded-none}
 use Rattle.area.specs.paper.Work.{workNumbers}
 use Rattle.area.specs.Area as layout
-use Rattle.memory.specs.declared.run.Run.{Run}
-use Rattle.memory.specs.States.{OVER, FULL}
-use Rattle.machine.specs.Contracts.{Ending, all-visited, out-of-budget, out-of-room, Stopped}
+use Rattle.machine.specs.declared.Ended.{Ended}
+use Rattle.machine.specs.Contracts.{outcomeIn, Told}
 use Rattle.lister.specs.paper.Promise.{mostBudget}
 use Rattle.lister.specs.paper.Promise as listing
 use Rattle.lister.specs.PromiseLaws.{Admitted as Admitted′, Early}
@@ -29,7 +28,7 @@ use Rattle.lister.specs.declared.Asked.{Asked}
 use Rattle.lister.specs.declared.Asked.the-variants.{Broken as BrokenBook, Turned}
 use Rattle.admitting.specs.declared.Admission.{Admission}
 use Rattle.admitting.specs.declared.Admission.the-variants.{Admitted, Excluded, Broken, Refused}
-use Rattle.admitting.specs.paper.Promise.{Result, broken, turned, searched, byBook, resultOf, answerOf, workOf, InSome, Says, Admits}
+use Rattle.admitting.specs.paper.Promise.{Result, broken, turned, searched, byBook, resultOf, answerOf, workOf, Says, Admits}
 
 -- two results that meet the promise are equal
 pub admits-unique : (image : List ℕ) (h budget : ℕ) (area : List ℕ) (r q : Admission) (area₁ area₂ : List ℕ)
@@ -75,39 +74,16 @@ sought-few image h budget area r area′ s = subst (λ (q : Admission). nodesIn 
     go (excluded n) e = sought-within (bookIn image) h budget n .1 e .0
     go (spent n) e = omega (arith, sought-within (bookIn image) h budget n .2 e)
 
-module _ (image : List ℕ) (h budget : ℕ) (area area′ : List ℕ) (run : Run) (stopped : Stopped (λ b. rootWith b h) image budget [] run)
-    (cleared : area′ ≡ zeros layout.end ++ drop layout.end area) where
-  left : (o : Seeking) → told (run-from (stopped .b) 0 budget (rootWith (stopped .b) h)) ≡ o → (r : Admission) → r ≡ answerOf (searched o) → Sought image h budget area r area′
-  left o e r a =
-      let same : stopped .b ≡ bookIn image = sym (book-in image (stopped .b) (stopped .book)) in
-      record {
-        answer = a ∙ ap (λ (x : Seeking). answerOf (searched x)) (sym e ∙ sym (sought-run (stopped .b) h budget) ∙ ap (λ (b : Book). sought b h budget) same);
-        work = cleared;
-      }
-
-  pub found-some : run .state ≡ FULL → (r : Admission) → r ≡ answerOf (searched (admitted (run .nodes))) → Sought image h budget area r area′
-  found-some e r a = go (stopped .ending)
-    where
-      go : Ending (run-from (stopped .b) 0 budget (rootWith (stopped .b) h)) [] run → Sought image h budget area r area′
-      go (all-visited i c o) = absurd (omega (arith, i, e))
-      go (out-of-budget i o) = absurd (omega (arith, i, e))
-      go (out-of-room i o) = left (admitted (run .nodes)) (ap told o) r a
-
-  pub found-none : run .state ≡ OVER → (r : Admission) → r ≡ answerOf (searched (excluded (run .nodes))) → Sought image h budget area r area′
-  found-none e r a = go (stopped .ending)
-    where
-      go : Ending (run-from (stopped .b) 0 budget (rootWith (stopped .b) h)) [] run → Sought image h budget area r area′
-      go (all-visited i c o) = left (excluded (run .nodes)) (ap told o) r a
-      go (out-of-budget i o) = absurd (omega (arith, i, e))
-      go (out-of-room i o) = absurd (omega (arith, i, e))
-
-  pub used-up : (run .state ≡ FULL → ⊥) → (run .state ≡ OVER → ⊥) → (r : Admission) → r ≡ answerOf (searched (spent (run .nodes))) → Sought image h budget area r area′
-  used-up f e r a = go (stopped .ending)
-    where
-      go : Ending (run-from (stopped .b) 0 budget (rootWith (stopped .b) h)) [] run → Sought image h budget area r area′
-      go (all-visited i c o) = absurd (e i)
-      go (out-of-budget i o) = left (spent (run .nodes)) (ap told o) r a
-      go (out-of-room i o) = absurd (f i)
+-- from what the machine answers, with no entry in its list
+pub found : (image : List ℕ) (h budget : ℕ) (area area′ none : List ℕ) (answer : Ended)
+    → Told (run-from (bookIn image) (length none) budget (rootWith (bookIn image) h)) none answer → length none ≡ 0
+    → area′ ≡ zeros layout.end ++ drop layout.end area
+    → (e : Ended) → answer ≡ e → Sought image h budget area (answerOf (searched (told (outcomeIn none e)))) area′
+found image h budget area area′ none answer t empty cleared e i =
+    let b = bookIn image in
+    let same : sought b h budget ≡ told (outcomeIn none e) =
+    sought-run b h budget ∙ ap (λ (n : ℕ). told (run-from b n budget (rootWith b h))) (sym empty) ∙ ap told (t .is ∙ ap (outcomeIn none) i) in
+    record { answer = ap (λ (x : Seeking). answerOf (searched x)) (sym same); work = cleared }
 
 -- ---- the ways to the call's result
 

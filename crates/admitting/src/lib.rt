@@ -2,9 +2,8 @@
 use image::front;
 use lister::Asked;
 use lister::before_search;
-use memory::run::FULL;
-use memory::run::OVER;
-ghost use mathlib.Core.Path.{_≡_};
+use machine::Beginning;
+use machine::Ended;
 ghost use Rattle.admitting.specs.paper.Promise.{Admits};
 ghost use Rattle.admitting.specs.AdmitLaws.{Seekable, Sought};
 
@@ -17,7 +16,7 @@ pub enum Admission {
     Refused(u8, u32),
 }
 
-// No list is lent, so none is too long.
+// The search has a list of no entries, so that none is too long, and the first success ends it.
 const NO_ROOM: usize = 0;
 
 // The search itself, where it may begin.
@@ -25,15 +24,13 @@ pub fn seek_book(image: &[u8], hypothesis: u32, budget: u32, work: &mut [u32]) -
     requires { ⌜ Seekable (now image) hypothesis budget (now work) ⌝ }
     ensures { λ r. ⌜ Sought (now (image .entry)) hypothesis budget (now (work .entry)) r (now (work .exit)) ⌝ }
 {
-    let r = machine::search_with(image, hypothesis as usize, budget as usize, work);
-    let nodes = r.nodes as u32;
-    if r.state == FULL {
-        return Admission::Admitted(nodes);
+    let mut none = [0u64; NO_ROOM];
+    let from = Beginning::RootWith(hypothesis as usize);
+    match machine::search(image, from, budget as usize, &mut none, work) {
+        Ended::Finished(_, visited) => Admission::Excluded(visited as u32),
+        Ended::UsedUp(visited) => Admission::Refused(30, visited as u32),
+        Ended::NoRoom(visited) => Admission::Admitted(visited as u32),
     }
-    if r.state == OVER {
-        return Admission::Excluded(nodes);
-    }
-    Admission::Refused(30, nodes)
 }
 
 // Whether some explaining set, of any size, has the hypothesis.

@@ -1,17 +1,15 @@
 -- The ways to the judge's answer, by the tests that its code makes.
 -- Assumes nothing.
-use Prim.Native.Nat.{ℕ, _+_, _*_, _/_, _^_, _≤_, _<_}
+use Prim.Native.Nat.{ℕ, _+_, _*_, _^_, _≤_, _<_}
 use mathlib.Core.Path.{_≡_, refl, sym, ap, subst, _∙_}
 use mathlib.Core.Bool.{Bool, true, false}
 use mathlib.Core.List.{List}
 use native.Mathlib.Omega.{arith}
-use native.Mathlib.Nat.{le-div-iff-mul-le, one-mul, lt-of-lt-of-le}
 use lib.Dec.{leb, ltb}
 use lib.ListN.{length}
-use lib.Pow.{pow-pos, pow-mono}
-use borrow.Author.Tests.{leb-true, le-leb, lt-leb, ltb-true, lt-ltb, le-ltb}
+use borrow.Author.Tests.{lt-ltb, le-ltb}
 use Rattle.base.specs.paper.Bools.{choose}
-use Rattle.base.specs.Bools.{choose-true, choose-false, same-test}
+use Rattle.base.specs.Bools.{choose-true, choose-false}
 use Rattle.image.specs.paper.Book.{Lit, Book}
 use Rattle.image.specs.Sound.{Known}
 use Rattle.image.specs.paper.Walk.{fieldAt}
@@ -27,20 +25,6 @@ use Rattle.image.specs.Shown.{clauseCountAt, abduciblesAt, goalsAt, goalAt}
 use Rattle.image.specs.Places.{shows}
 use Rattle.judging.proofs.Image.{lits-stand, part}
 use Rattle.judging.proofs.Constraint.{Counted, counted-part}
-
--- ---- the set
-
-pub above : (d k : ℕ) → ltb 0 (d / 2 ^ k) ≡ leb (2 ^ k) d
-above d k = same-test to back
-  where
-    to : ltb 0 (d / 2 ^ k) ≡ true → leb (2 ^ k) d ≡ true
-    to e = le-leb (2 ^ k) d (subst (λ (n : ℕ). n ≤ d) (one-mul (2 ^ k)) (le-div-iff-mul-le (pow-pos k) .0 (ltb-true 0 (d / 2 ^ k) e)))
-
-    back : leb (2 ^ k) d ≡ true → ltb 0 (d / 2 ^ k) ≡ true
-    back e = lt-ltb 0 (d / 2 ^ k) (le-div-iff-mul-le (pow-pos k) .1 (subst (λ (n : ℕ). n ≤ d) (sym (one-mul (2 ^ k))) (leb-true (2 ^ k) d e)))
-
-pub none-above : (d k : ℕ) → d < 2 ^ 64 → 64 ≤ k → false ≡ leb (2 ^ k) d
-none-above d k h l = sym (lt-leb (2 ^ k) d (lt-of-lt-of-le h (pow-mono l)))
 
 -- ---- the goal
 

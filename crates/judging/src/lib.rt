@@ -6,11 +6,9 @@ pub mod values;
 use book::Reading;
 use image::fields;
 use image::front;
-use sets::members::SET_BITS;
+use sets::members::names_above;
 use values::NOTES;
 ghost use mathlib.Core.Path.{_≡_};
-ghost use Prim.Native.Nat.{_^_};
-ghost use lib.Dec.{leb};
 ghost use Rattle.image.specs.Accepted.{IsBook, bookIn};
 ghost use Rattle.judging.specs.paper.Judged.{judgedBook, Judges};
 
@@ -21,16 +19,6 @@ pub enum Judgement {
     BrokenConstraint(u32),
     Broken(u8, usize),
     Refused(u8),
-}
-
-// Whether the set names an abducible of this number or above.
-fn names_above(set: u64, abducibles: u32) -> bool
-    ensures { λ r. ⌜ r ≡ leb (2 ^ abducibles) set ⌝ }
-{
-    if SET_BITS <= abducibles {
-        return false;
-    }
-    0 < set >> abducibles
 }
 
 // The answer on an accepted image.

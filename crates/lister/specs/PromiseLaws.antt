@@ -17,7 +17,6 @@ use Rattle.searching.specs.paper.Rules.{root, Outcome, finished, used-up, no-ro
 use Rattle.searching.specs.paper.Explanations.{Explanations}
 use Rattle.searching.specs.Main.{listed}
 use Rattle.area.specs.Area as layout
-use Rattle.memory.specs.declared.run.Run.{Run}
 use Rattle.lister.specs.declared.Asked.{Asked}
 use Rattle.lister.specs.declared.Asked.the-variants.{Broken as BrokenBook, Turned, Search}
 use Rattle.lister.specs.declared.Listing.{Listing}
@@ -57,22 +56,22 @@ explained image budget sets work r sets′ work′ h k n i = go (searchEnd (h .b
         }
 
 -- the results of the search's three endings, from what the code leaves
-module _ (image : List ℕ) (budget : ℕ) (old work : List ℕ) (kept : List ℕ) (run : Run) (book : Book) (is-book : decode image ≡ accepted book) (same : length kept ≡ length old) where
+module _ (image : List ℕ) (budget : ℕ) (old work : List ℕ) (kept : List ℕ) (book : Book) (is-book : decode image ≡ accepted book) (same : length kept ≡ length old) where
   outcome-at : (o : Outcome) → run-from book (length kept) budget (root book) ≡ o → searchEnd book (length old) budget ≡ sent o
   outcome-at o p = ap sent (ap (λ (m : ℕ). run-from book m budget (root book)) (sym same) ∙ p)
 
-  pub searched-all : (sets′ work′ : List ℕ) → run .count ≤ length kept → run-from book (length kept) budget (root book) ≡ finished (take (run .count) kept) (run .nodes)
-      → sets′ ≡ sort (take (run .count) kept) ++ zeros (length kept - run .count) → work′ ≡ zeros layout.end ++ drop layout.end work
-      → Searched image budget old work (Listed (run .count) (run .nodes)) sets′ work′
-  searched-all sets′ work′ c p t u =
-      let o : searchEnd book (length old) budget ≡ finished (sort (take (run .count) kept)) (run .nodes) = outcome-at (finished (take (run .count) kept) (run .nodes)) p in
-      let many : length (sort (take (run .count) kept)) ≡ run .count = sort-length (take (run .count) kept) ∙ length-take-le (run .count) kept c in
+  pub searched-all : (count nodes : ℕ) (sets′ work′ : List ℕ) → count ≤ length kept → run-from book (length kept) budget (root book) ≡ finished (take count kept) nodes
+      → sets′ ≡ sort (take count kept) ++ zeros (length kept - count) → work′ ≡ zeros layout.end ++ drop layout.end work
+      → Searched image budget old work (Listed count nodes) sets′ work′
+  searched-all count nodes sets′ work′ c p t u =
+      let o : searchEnd book (length old) budget ≡ finished (sort (take count kept)) nodes = outcome-at (finished (take count kept) nodes) p in
+      let many : length (sort (take count kept)) ≡ count = sort-length (take count kept) ∙ length-take-le count kept c in
       record {
         b = book;
         book = is-book;
-        answer = ap (λ (k : ℕ). Listed k (run .nodes)) (sym many) ∙ ap (λ (x : Outcome). answerOf (searched x)) (sym o);
+        answer = ap (λ (k : ℕ). Listed k nodes) (sym many) ∙ ap (λ (x : Outcome). answerOf (searched x)) (sym o);
         sets =
-            t ∙ ap₂ (λ (m k : ℕ). sort (take (run .count) kept) ++ zeros (m - k)) same (sym many)
+            t ∙ ap₂ (λ (m k : ℕ). sort (take count kept) ++ zeros (m - k)) same (sym many)
             ∙ ap (λ (x : Outcome). setsOf (searched x) old) (sym o);
         work = u;
       }
@@ -91,13 +90,13 @@ module _ (image : List ℕ) (budget : ℕ) (old work : List ℕ) (kept : List �
         work = u;
       }
 
-  pub searched-short : (sets′ work′ : List ℕ) → run-from book (length kept) budget (root book) ≡ used-up (run .nodes) → sets′ ≡ zeros (length kept)
-      → work′ ≡ zeros layout.end ++ drop layout.end work → Searched image budget old work (Refused 30 (run .nodes)) sets′ work′
-  searched-short sets′ work′ p t u = none-listed (used-up (run .nodes)) p refl refl t u
+  pub searched-short : (nodes : ℕ) (sets′ work′ : List ℕ) → run-from book (length kept) budget (root book) ≡ used-up nodes → sets′ ≡ zeros (length kept)
+      → work′ ≡ zeros layout.end ++ drop layout.end work → Searched image budget old work (Refused 30 nodes) sets′ work′
+  searched-short nodes sets′ work′ p t u = none-listed (used-up nodes) p refl refl t u
 
-  pub searched-full : (sets′ work′ : List ℕ) → run-from book (length kept) budget (root book) ≡ no-room (run .nodes) → sets′ ≡ zeros (length kept)
-      → work′ ≡ zeros layout.end ++ drop layout.end work → Searched image budget old work (Refused 31 (run .nodes)) sets′ work′
-  searched-full sets′ work′ p t u = none-listed (no-room (run .nodes)) p refl refl t u
+  pub searched-full : (nodes : ℕ) (sets′ work′ : List ℕ) → run-from book (length kept) budget (root book) ≡ no-room nodes → sets′ ≡ zeros (length kept)
+      → work′ ≡ zeros layout.end ++ drop layout.end work → Searched image budget old work (Refused 31 nodes) sets′ work′
+  searched-full nodes sets′ work′ p t u = none-listed (no-room nodes) p refl refl t u
 
 -- ---- the ways to a result
 

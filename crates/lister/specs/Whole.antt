@@ -11,18 +11,19 @@ use lib.Seq.{take-at, length-take-le}
 use lib.Dec.{ltb}
 use Rattle.base.specs.paper.Bools.{choose}
 use Rattle.image.specs.paper.Book.{Book}
+use Rattle.image.specs.Accepted.{IsBook, bookIn}
 use Rattle.sets.specs.paper.Kept.{zeros, sort}
 use Rattle.sets.specs.KeptLaws.{sort-length}
 use Rattle.searching.specs.paper.Rules.{Node, root, children, noting, Outcome, finished, used-up, no-room, run, run-from}
 use Rattle.area.specs.Area as layout
-use Rattle.memory.specs.declared.run.Run.{Run}
-use Rattle.memory.specs.States.{OVER, SPENT}
-use Rattle.machine.specs.Contracts.{Ending, all-visited, out-of-budget, out-of-room, Stopped}
+use Rattle.machine.specs.declared.Ended.{Ended}
+use Rattle.machine.specs.declared.Ended.the-variants.{Finished, UsedUp, NoRoom}
+use Rattle.machine.specs.Contracts.{outcomeIn, keptIn, Told}
 use Rattle.lister.specs.declared.Listing.the-variants.{Listed, Refused}
 use Rattle.lister.specs.PromiseLaws.{Searched, searched-all, searched-short, searched-full}
 
 -- no search visits more nodes than its budget
-abbrev nodesOf : Outcome → ℕ
+abbrev pub nodesOf : Outcome → ℕ
 nodesOf (finished kept n) = n
 nodesOf (used-up n) = n
 nodesOf (no-room n) = n
@@ -40,67 +41,42 @@ run-nodes b room (suc k) (x ∷ xs) kept n =
     go true later h = omega arith
     go false later h = omega arith
 
-pub few-nodes : {start : Book → Node} (image : List ℕ) (budget : ℕ) (kept : List ℕ) (r : Run) → Stopped start image budget kept r → r .nodes ≤ budget
-few-nodes {start} image budget kept r h = go (h .ending)
-  where
-    at-most : (o : Outcome) → run-from (h .b) (length kept) budget (start (h .b)) ≡ o → nodesOf o ≤ budget
-    at-most o e =
-        let most = run-nodes (h .b) (length kept) budget (start (h .b) ∷ []) [] 0 in
-        subst (λ (x : Outcome). nodesOf x ≤ budget) e (omega (arith, most))
+-- so an answer of the machine tells no more
+pub few-nodes : (b : Book) (budget : ℕ) (start : Node) (sets : List ℕ) (answer : Ended) → Told (run-from b (length sets) budget start) sets answer
+    → (e : Ended) → answer ≡ e → nodesOf (outcomeIn sets e) ≤ budget
+few-nodes b budget start sets answer told e i =
+    let most = run-nodes b (length sets) budget (start ∷ []) [] 0 in
+    subst (λ (o : Outcome). nodesOf o ≤ budget) (told .is ∙ ap (outcomeIn sets) i) (omega (arith, most))
 
-    go : Ending (run-from (h .b) (length kept) budget (start (h .b))) kept r → r .nodes ≤ budget
-    go (all-visited i c o) = at-most _ o
-    go (out-of-budget i o) = at-most _ o
-    go (out-of-room i o) = at-most _ o
-
-module _ (image : List ℕ) (budget : ℕ) (old work kept : List ℕ) (run : Run) (stopped : Stopped root image budget kept run) (same : length kept ≡ length old) where
+module _ (image : List ℕ) (budget : ℕ) (old work kept : List ℕ) (book : IsBook image) (answer : Ended)
+    (told : Told (run-from (bookIn image) (length kept) budget (root (bookIn image))) kept answer) (same : length kept ≡ length old) where
   -- what the rules' search gives from the root
-  abbrev gives : Outcome
-  gives = run-from (stopped .b) (length kept) budget (root (stopped .b))
+  gives : (e : Ended) → answer ≡ e → run-from (bookIn image) (length kept) budget (root (bookIn image)) ≡ outcomeIn kept e
+  gives e i = told .is ∙ ap (outcomeIn kept) i
 
-  record Visited-all : Type 0 where
-    few : run .count ≤ length kept
-    end : gives ≡ finished (take (run .count) kept) (run .nodes)
+  pub count-fits : (count nodes : ℕ) → answer ≡ Finished count nodes → count ≤ length kept
+  count-fits count nodes i = subst (λ (e : Ended). keptIn e ≤ length kept) i (told .few)
 
-  visited-all : run .state ≡ OVER → Visited-all
-  visited-all e = go (stopped .ending)
-    where
-      go : Ending gives kept run → Visited-all
-      go (all-visited i c o) = record { few = c; end = o }
-      go (out-of-budget i o) = absurd (omega (arith, i, e))
-      go (out-of-room i o) = absurd (omega (arith, i, e))
-
-  pub count-fits : run .state ≡ OVER → run .count ≤ length kept
-  count-fits e = visited-all e .few
-
-  pub ends-listed : (sets₁ sets₂ work₂ : List ℕ) → run .state ≡ OVER → sets₁ ≡ sort (take (run .count) kept) ++ drop (run .count) kept
-      → sets₂ ≡ take (run .count) sets₁ ++ zeros (length sets₁ - run .count) → work₂ ≡ zeros layout.end ++ drop layout.end work
-      → Searched image budget old work (Listed (run .count) (run .nodes)) sets₂ work₂
-  ends-listed sets₁ sets₂ work₂ e p q u =
-      let a = visited-all e in
-      let many : length (sort (take (run .count) kept)) ≡ run .count = sort-length (take (run .count) kept) ∙ length-take-le (run .count) kept (a .few) in
-      let size : length sets₁ ≡ length kept = ap length p ∙ length-append (sort (take (run .count) kept)) (drop (run .count) kept) ∙ omega (arith, many, length-drop (run .count) kept, a .few) in
-      let front : take (run .count) sets₁ ≡ sort (take (run .count) kept) = ap (take (run .count)) p ∙ take-at (sort (take (run .count) kept)) (drop (run .count) kept) (run .count) many in
-      searched-all image budget old work kept run (stopped .b) (stopped .book) same sets₂ work₂ (a .few) (a .end)
-      (q ∙ ap₂ (λ (l : List ℕ) (n : ℕ). l ++ zeros (n - run .count)) front size) u
+  pub ends-listed : (count nodes : ℕ) (sets₁ sets₂ work₂ : List ℕ) → answer ≡ Finished count nodes → sets₁ ≡ sort (take count kept) ++ drop count kept
+      → sets₂ ≡ take count sets₁ ++ zeros (length sets₁ - count) → work₂ ≡ zeros layout.end ++ drop layout.end work
+      → Searched image budget old work (Listed count nodes) sets₂ work₂
+  ends-listed count nodes sets₁ sets₂ work₂ i p q u =
+      let few = count-fits count nodes i in
+      let many : length (sort (take count kept)) ≡ count = sort-length (take count kept) ∙ length-take-le count kept few in
+      let size : length sets₁ ≡ length kept = ap length p ∙ length-append (sort (take count kept)) (drop count kept) ∙ omega (arith, many, length-drop count kept, few) in
+      let front : take count sets₁ ≡ sort (take count kept) = ap (take count) p ∙ take-at (sort (take count kept)) (drop count kept) count many in
+      searched-all image budget old work kept (bookIn image) book same count nodes sets₂ work₂ few (gives (Finished count nodes) i)
+      (q ∙ ap₂ (λ (l : List ℕ) (n : ℕ). l ++ zeros (n - count)) front size) u
 
   zeroed : (sets₂ : List ℕ) → sets₂ ≡ take 0 kept ++ zeros (length kept - 0) → sets₂ ≡ zeros (length kept)
   zeroed sets₂ p = p ∙ ap zeros (sub-zero (length kept))
 
-  pub ends-short : (sets₂ work₂ : List ℕ) → run .state ≡ SPENT → sets₂ ≡ take 0 kept ++ zeros (length kept - 0) → work₂ ≡ zeros layout.end ++ drop layout.end work
-      → Searched image budget old work (Refused 30 (run .nodes)) sets₂ work₂
-  ends-short sets₂ work₂ e p u = go (stopped .ending)
-    where
-      go : Ending gives kept run → Searched image budget old work (Refused 30 (run .nodes)) sets₂ work₂
-      go (all-visited i c o) = absurd (omega (arith, i, e))
-      go (out-of-budget i o) = searched-short image budget old work kept run (stopped .b) (stopped .book) same sets₂ work₂ o (zeroed sets₂ p) u
-      go (out-of-room i o) = absurd (omega (arith, i, e))
+  pub ends-short : (nodes : ℕ) (sets₂ work₂ : List ℕ) → answer ≡ UsedUp nodes → sets₂ ≡ take 0 kept ++ zeros (length kept - 0) → work₂ ≡ zeros layout.end ++ drop layout.end work
+      → Searched image budget old work (Refused 30 nodes) sets₂ work₂
+  ends-short nodes sets₂ work₂ i p u =
+      searched-short image budget old work kept (bookIn image) book same nodes sets₂ work₂ (gives (UsedUp nodes) i) (zeroed sets₂ p) u
 
-  pub ends-full : (sets₂ work₂ : List ℕ) → (run .state ≡ OVER → ⊥) → (run .state ≡ SPENT → ⊥) → sets₂ ≡ take 0 kept ++ zeros (length kept - 0) → work₂ ≡ zeros layout.end ++ drop layout.end work
-      → Searched image budget old work (Refused 31 (run .nodes)) sets₂ work₂
-  ends-full sets₂ work₂ d e p u = go (stopped .ending)
-    where
-      go : Ending gives kept run → Searched image budget old work (Refused 31 (run .nodes)) sets₂ work₂
-      go (all-visited i c o) = absurd (d i)
-      go (out-of-budget i o) = absurd (e i)
-      go (out-of-room i o) = searched-full image budget old work kept run (stopped .b) (stopped .book) same sets₂ work₂ o (zeroed sets₂ p) u
+  pub ends-full : (nodes : ℕ) (sets₂ work₂ : List ℕ) → answer ≡ NoRoom nodes → sets₂ ≡ take 0 kept ++ zeros (length kept - 0) → work₂ ≡ zeros layout.end ++ drop layout.end work
+      → Searched image budget old work (Refused 31 nodes) sets₂ work₂
+  ends-full nodes sets₂ work₂ i p u =
+      searched-full image budget old work kept (bookIn image) book same nodes sets₂ work₂ (gives (NoRoom nodes) i) (zeroed sets₂ p) u

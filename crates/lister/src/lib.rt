@@ -1,8 +1,8 @@
 // The lister: the tests before any search, the search, and the list in order.
 use area::END;
 use book::Reading;
-use memory::run::OVER;
-use memory::run::SPENT;
+use machine::Beginning;
+use machine::Ended;
 use sets::LONGEST;
 ghost use lib.ListN.{length};
 ghost use Rattle.lister.specs.paper.Promise.{Lists};
@@ -15,7 +15,7 @@ pub enum Listing {
     Refused(u8, u32),
 }
 
-const MOST_BUDGET: u32 = 1000000;
+pub const MOST_BUDGET: u32 = 1000000;
 
 // What the tests before any search find: a refusal as above, or that the search may begin.
 pub enum Asked {
@@ -60,18 +60,23 @@ pub fn list_book(image: &[u8], budget: u32, sets: &mut [u64], work: &mut [u32]) 
     requires { ⌜ Admitted (now image) budget (length (now sets)) (length (now work)) ⌝ }
     ensures { λ r. ⌜ Lists (now (image .entry)) budget (now (sets .entry)) (now (work .entry)) r (now (sets .exit)) (now (work .exit)) ⌝ }
 {
-    let r = machine::search(image, budget as usize, sets, work);
-    let state = r.state;
-    let count = r.count;
-    let nodes = r.nodes as u32;
-    if state == OVER {
-        order::order(sets, count);
-        sets::lists::clear(sets, count);
-        return Listing::Listed(count as u32, nodes);
+    match machine::search(image, Beginning::Root, budget as usize, sets, work) {
+        Ended::Finished(kept, visited) => {
+            order::order(sets, kept);
+            sets::lists::clear(sets, kept);
+            let count = kept as u32;
+            let nodes = visited as u32;
+            Listing::Listed(count, nodes)
+        }
+        Ended::UsedUp(visited) => {
+            sets::lists::clear(sets, 0);
+            let nodes = visited as u32;
+            Listing::Refused(30, nodes)
+        }
+        Ended::NoRoom(visited) => {
+            sets::lists::clear(sets, 0);
+            let nodes = visited as u32;
+            Listing::Refused(31, nodes)
+        }
     }
-    sets::lists::clear(sets, 0);
-    if state == SPENT {
-        return Listing::Refused(30, nodes);
-    }
-    Listing::Refused(31, nodes)
 }

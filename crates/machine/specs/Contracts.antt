@@ -2,10 +2,9 @@
 -- Assumes nothing.
 use Prim.Native.Nat.{ℕ, suc, _+_, _-_, _≤_, _<_}
 use mathlib.Core.Path.{_≡_}
-use mathlib.Core.List.{List, [], _++_}
+use mathlib.Core.List.{List, [], _∷_, _++_}
 use lib.ListN.{length, take, drop}
 use Rattle.image.specs.paper.Book.{Book}
-use Rattle.image.specs.paper.Decode.{decode, accepted}
 use Rattle.sets.specs.paper.Kept.{zeros, longest}
 use Rattle.searching.specs.paper.Rules.{Node, root, Outcome, finished, no-room, run-from}
 use Rattle.searching.specs.paper.Rules
@@ -15,6 +14,10 @@ use Rattle.image.specs.Accepted.{IsBook, bookIn}
 use Rattle.memory.specs.declared.run.Run.{Run}
 use Rattle.memory.specs.States.{TASK, AGENDA, OVER, SPENT, FULL}
 use Rattle.memory.specs.Machine.{Holds}
+use Rattle.machine.specs.declared.Beginning.{Beginning}
+use Rattle.machine.specs.declared.Beginning.the-variants.{Root, RootWith}
+use Rattle.machine.specs.declared.Ended.{Ended}
+use Rattle.machine.specs.declared.Ended.the-variants.{Finished, UsedUp, NoRoom}
 
 -- It goes on: from here the rules' search gives this outcome.
 pub record Searching (image : List ℕ) (budget : ℕ) (outcome : Outcome) (sets work : List ℕ) (run : Run) : Type 0 where
@@ -66,9 +69,30 @@ pub record Stepped (image : List ℕ) (budget : ℕ) (sets work : List ℕ) (run
 abbrev pub ahead : ℕ → Run → ℕ
 ahead budget run = (budget - run .nodes) + (OVER - run .state)
 
--- What the whole walk leaves: an end with the outcome that was to come, and a work area of zeros, with what lies behind it unchanged.
-pub record Walked (image : List ℕ) (budget : ℕ) (sets work : List ℕ) (run : Run) (after work′ : List ℕ) (run′ : Run) : Type 0 where
-  pub ending : (outcome : Outcome) → Searching image budget outcome sets work run → Ending outcome after run′
+-- the outcome that an answer tells, with the list as it is left
+abbrev pub outcomeIn : List ℕ → Ended → Outcome
+outcomeIn sets (Finished count nodes) = finished (take count sets) nodes
+outcomeIn sets (UsedUp nodes) = Rules.used-up nodes
+outcomeIn sets (NoRoom nodes) = no-room nodes
+
+-- the number of kept sets that it tells
+abbrev pub keptIn : Ended → ℕ
+keptIn (Finished count nodes) = count
+keptIn (UsedUp nodes) = 0
+keptIn (NoRoom nodes) = 0
+
+-- It tells this outcome, and the kept sets stand in the list.
+pub record Told (outcome : Outcome) (sets : List ℕ) (answer : Ended) : Type 0 where
+  pub is : outcome ≡ outcomeIn sets answer
+  pub few : keptIn answer ≤ length sets
+
+-- whatever the outcome is with which the run has ended
+abbrev pub Tells : Run → Ended → Type 0
+Tells run answer = (outcome : Outcome) (sets : List ℕ) → Ending outcome sets run → Told outcome sets answer
+
+-- What the whole walk leaves: the outcome that was to come, and a work area of zeros, with what lies behind it unchanged.
+pub record Walked (image : List ℕ) (budget : ℕ) (sets work : List ℕ) (run : Run) (after work′ : List ℕ) (answer : Ended) : Type 0 where
+  pub told : (outcome : Outcome) → Searching image budget outcome sets work run → Told outcome after answer
   pub cleared : work′ ≡ zeros layout.end ++ drop layout.end work
 
 -- the last piece, which sees the image
@@ -84,30 +108,36 @@ pub record Placed (image work : List ℕ) (run : Run) (n : ℕ) : Type 0 where
   pub low : ℕ
   pub state : State image budget outcome sets work run n low
 
--- The search from a start has stopped, with the rules' outcome.
-pub record Stopped (start : Book → Node) (image : List ℕ) (budget : ℕ) (sets : List ℕ) (run : Run) : Type 0 where
-  pub b : Book
-  pub book : decode image ≡ accepted b
-  pub ending : Ending (run-from b (length sets) budget (start b)) sets run
+-- the node that a search begins at
+abbrev pub beginsAt : Beginning → Book → Node
+beginsAt Root b = root b
+beginsAt (RootWith h) b = rootWith b h
 
--- A search may begin, where the image is a book, the list not too long and the work area not too short.
-pub record Searchable (image sets work : List ℕ) : Type 0 where
+-- where a hypothesis is given, it is an abducible of the book
+abbrev pub Known : Beginning → Book → Type 0
+Known Root b = Unit {0}
+Known (RootWith h) b = h < b .abducibles
+
+-- A start may be made, where the image is a book and the work area not too short.
+pub record Startable (image : List ℕ) (from : Beginning) (work : List ℕ) : Type 0 where
   pub book : IsBook image
-  pub few : length sets ≤ longest
+  pub known : Known from (bookIn image)
   pub long : layout.Long work
+
+-- What it leaves: the node that the search begins at is due, with its first task in hand.
+pub record Started (image : List ℕ) (from : Beginning) (work work′ : List ℕ) (run : Run) : Type 0 where
+  pub holds : Holds image (bookIn image) work′ run (beginsAt from (bookIn image) ∷ [])
+  pub state : run .state ≡ TASK
+  pub nodes : run .nodes ≡ 0
+  pub count : run .count ≡ 0
+  pub later : drop layout.end work′ ≡ drop layout.end work
+
+-- A search may begin, where the list is not too long either.
+pub record Searchable (image : List ℕ) (from : Beginning) (sets work : List ℕ) : Type 0 where
+  pub start : Startable image from work
+  pub few : length sets ≤ longest
 
 -- What it leaves: the rules' outcome, and a work area of zeros, with what lies behind it unchanged.
-pub record Searched (image : List ℕ) (budget : ℕ) (work after work′ : List ℕ) (run : Run) : Type 0 where
-  pub stopped : Stopped root image budget after run
-  pub cleared : work′ ≡ zeros layout.end ++ drop layout.end work
-
--- So may one with a hypothesis, an abducible of the book; it has no list.
-pub record SearchableWith (image : List ℕ) (hypothesis : ℕ) (work : List ℕ) : Type 0 where
-  pub book : IsBook image
-  pub abducible : hypothesis < bookIn image .abducibles
-  pub long : layout.Long work
-
--- What it leaves: the rules' outcome with no room, so that its first success ends it; and the work area as above.
-pub record SearchedWith (image : List ℕ) (hypothesis budget : ℕ) (work work′ : List ℕ) (run : Run) : Type 0 where
-  pub stopped : Stopped (λ b. rootWith b hypothesis) image budget [] run
+pub record Searched (image : List ℕ) (from : Beginning) (budget : ℕ) (work after work′ : List ℕ) (answer : Ended) : Type 0 where
+  pub told : Told (run-from (bookIn image) (length after) budget (beginsAt from (bookIn image))) after answer
   pub cleared : work′ ≡ zeros layout.end ++ drop layout.end work

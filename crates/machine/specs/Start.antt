@@ -1,4 +1,4 @@
--- The start: the tables are filled, and the root's agenda is in hand, or a hypothesis and the root's agenda behind it.
+-- The start: the tables are filled, and the first task is in hand, the root's own or a hypothesis with the root's agenda behind it.
 -- Assumes nothing.
 use Prim.Native.Nat.{ℕ, zero, suc, _+_, _-_, _*_, _≤_, _<_}
 use native.Mathlib.Nat.{sub-zero}
@@ -8,16 +8,16 @@ use mathlib.Core.Bool.{false}
 use mathlib.Core.List.{List, [], _∷_, _++_, map}
 use lib.ListN.{length, take, drop}
 use Rattle.image.specs.paper.Book.{Lit, Book}
-use Rattle.image.specs.paper.Decode.{litOf, decode, accepted}
+use Rattle.image.specs.paper.Decode.{litOf}
 use Rattle.image.specs.Spell.{ofLit, ofLits, Stands}
 use Rattle.image.specs.StandsLaws.{stands-within}
 use Rattle.image.specs.Finds.{length-lits, lit-in}
 use Rattle.image.specs.Written.{Within}
 use Rattle.image.specs.paper.Faults.{limits}
 use Rattle.image.specs.Shown.{goalAt, lits-at, clauseCountAt, Shown, shown}
-use Rattle.image.specs.Accepted.{within, orderly, IsBook, bookIn, book-in}
-use Rattle.sets.specs.paper.Kept.{longest}
-use Rattle.searching.specs.paper.Rules.{want, keep, Node, root, on, gather, assumed, Outcome, finished, run-from}
+use Rattle.image.specs.Accepted.{within, orderly, bookIn}
+use Rattle.sets.specs.paper.Kept.{zeros, longest}
+use Rattle.searching.specs.paper.Rules.{want, keep, Node, root, on, gather, assumed, run-from}
 use Rattle.searching.specs.paper.Rules
 use Rattle.searching.specs.paper.Seek.{rootWith}
 use Rattle.searching.specs.Bounds.{root-frames, root-named, with-frames, with-named}
@@ -27,11 +27,14 @@ use Rattle.tables.specs.Filling.{Filled}
 use Rattle.area.specs.Area as layout
 use Rattle.memory.specs.declared.run.Agenda.{Agenda}
 use Rattle.memory.specs.declared.run.Run.{Run}
-use Rattle.memory.specs.States.{TASK, AGENDA, OVER}
+use Rattle.memory.specs.States.{TASK, AGENDA}
 use Rattle.memory.specs.Machine.{Trail, Own, Tail, Leads, bottom, nodeOf, Fine, Hand, Holds, with-hand}
 use Rattle.memory.specs.Pieces.{giving}
-use Rattle.memory.specs.Contracts.{Moved}
-use Rattle.machine.specs.Contracts.{Searching, Ending, all-visited, out-of-budget, out-of-room, Walked, Stopped}
+use Rattle.memory.specs.Contracts.{Standing, Moved}
+use Rattle.machine.specs.Contracts.{Searching, Told, Walked, beginsAt, Known, Started, Searched}
+use Rattle.machine.specs.declared.Beginning.{Beginning}
+use Rattle.machine.specs.declared.Beginning.the-variants.{Root, RootWith}
+use Rattle.machine.specs.declared.Ended.{Ended}
 
 -- the goal, which ends where the clause count stands, and then all constraints
 abbrev pub rootAgenda : ℕ → Agenda
@@ -41,14 +44,8 @@ abbrev pub rootRun : ℕ → Run
 rootRun clauses =
     record { state = AGENDA; task = 0; agenda = rootAgenda clauses; marked = layout.trail; top = layout.frames; nodes = 0; count = 0; set = 0 }
 
--- What the start leaves: with the root in hand, and where a hypothesis is given, with that ahead of it.
-pub record Started (image work work′ : List ℕ) (run : Run) : Type 0 where
-  pub holds : (b : Book) → decode image ≡ accepted b → Holds image b work′ run (root b ∷ [])
-  pub holds-with : (b : Book) (h : ℕ) → decode image ≡ accepted b → h < b .abducibles → Holds image b work′ (giving run TASK (2 * h)) (rootWith b h ∷ [])
-  pub state : run .state ≡ AGENDA
-  pub nodes : run .nodes ≡ 0
-  pub count : run .count ≡ 0
-  pub later : drop layout.end work′ ≡ drop layout.end work
+pub known-with : {from : Beginning} {h : ℕ} (b : Book) → from ≡ RootWith h → Known from b → h < b .abducibles
+known-with b i k = subst (λ (x : Beginning). Known x b) i k
 
 module _ (image work work′ : List ℕ) (filled : Filled image work work′) (clauses : ℕ) (is-clauses : clauses ≡ clauseCountAt image) where
   abbrev its : Book
@@ -126,78 +123,61 @@ module _ (image work work′ : List ℕ) (filled : Filled image work work′) (c
           subst (λ (x : Node). Hand image its (of work′) work′ 0 0 0 [] [] task (rootAgenda clauses) TASK (x ∷ [])) ahead
           (Hand.literal low agenda (subst (Fine its 0) (sym ahead) (with-fine h p)))
 
-  pub started : (run : Run) → run ≡ rootRun clauses → Started image work work′ run
-  started run e = record {
-    holds = λ b i. subst₂ (λ (c : Book) (o : Run). Holds image c work′ o (root c ∷ [])) (book-in image b i) (sym e) root-holds;
-    holds-with = λ b h i p.
-        subst₂ (λ (c : Book) (o : Run). h < c .abducibles → Holds image c work′ (giving o TASK (2 * h)) (rootWith c h ∷ []))
-        (book-in image b i) (sym e) (with-holds h) p;
-    state = ap (λ (o : Run). o .state) e;
-    nodes = ap (λ (o : Run). o .nodes) e;
-    count = ap (λ (o : Run). o .count) e;
-    later = behind-stays work work′ layout.end (filled .size) (λ j h. filled .stays j (omega arith));
-  }
+  behind : drop layout.end work′ ≡ drop layout.end work
+  behind = behind-stays work work′ layout.end (filled .size) (λ j h. filled .stays j (omega arith))
 
--- ---- the search begins at a node, and stops with what the rules give from it
+  module _ (run : Run) (is-root : run ≡ rootRun clauses) where
+    run-holds : Holds image its work′ run (root its ∷ [])
+    run-holds = subst (λ (o : Run). Holds image its work′ o (root its ∷ [])) (sym is-root) root-holds
 
-begins : {image work : List ℕ} {run : Run} (b : Book) (budget : ℕ) (sets : List ℕ) (x : Node) → Holds image b work run (x ∷ []) → run .nodes ≡ 0 → run .count ≡ 0
-    → length sets ≤ longest → Searching image budget (run-from b (length sets) budget x) sets work run
-begins {run = run} b budget sets x h n c few = record {
-  b = b;
-  all = x ∷ [];
-  holds = h;
-  nodes = omega (arith, n);
-  count = omega (arith, c);
-  entries = few;
-  answer = start (run .nodes) (run .count) n c;
-}
-  where
-    start : (n c : ℕ) → n ≡ 0 → c ≡ 0 → run-from b (length sets) budget x ≡ Rules.run b (length sets) (budget - n) (x ∷ []) (take c sets) n
-    start n c p q = rw (p, q, sub-zero)
+    pub root-stands : Standing image work′ run AGENDA
+    root-stands = record { b = its; all = root its ∷ []; holds = run-holds; state = ap (λ (o : Run). o .state) is-root }
 
-no-entry : (l : List ℕ) → length l ≡ 0 → l ≡ []
-no-entry [] e = refl
-no-entry (x ∷ l) e = absurd (omega (arith, e))
-
--- a search with no list that has visited all nodes has kept nothing
-pub none-kept : {outcome : Outcome} {run : Run} → Ending outcome [] run → run .state ≡ OVER → outcome ≡ finished [] (run .nodes)
-none-kept {run = run} (all-visited i c o) e =
-    let none : run .count ≡ 0 = omega (arith, c) in
-    o ∙ ap (λ (n : ℕ). finished (take n []) (run .nodes)) none
-none-kept (out-of-budget i o) e = absurd (omega (arith, i, e))
-none-kept (out-of-room i o) e = absurd (omega (arith, i, e))
-
-module _ {image work work′ : List ℕ} {run first : Run} (book : IsBook image) (h : Started image work work′ run) (budget : ℕ) where
-  -- at the root: its first task is in hand
-  pub begins-root : (sets : List ℕ) → length sets ≤ longest → Moved image work′ run work′ first TASK
-      → Searching image budget (run-from (bookIn image) (length sets) budget (root (bookIn image))) sets work′ first
-  begins-root sets few m =
-      begins (bookIn image) budget sets (root (bookIn image)) (m .holds (bookIn image) (root (bookIn image) ∷ []) (h .holds (bookIn image) book))
-      (m .nodes ∙ h .nodes) (m .count ∙ h .count) few
-
-  pub stops-root : {sets after work″ : List ℕ} {last : Run} → length sets ≤ longest → Moved image work′ run work′ first TASK
-      → Walked image budget sets work′ first after work″ last
-      → length after ≡ length sets → Stopped root image budget after last
-  stops-root {sets} {after} {last = last} few m w same = record {
-    b = bookIn image;
-    book = book;
-    ending =
-        subst (λ (n : ℕ). Ending (run-from (bookIn image) n budget (root (bookIn image))) after last) (sym same) (w .ending _ (begins-root sets few m));
-  }
-
-  -- with a hypothesis ahead of it, and no list
-  module _ (hypothesis : ℕ) (known : hypothesis < bookIn image .abducibles) (is : first ≡ giving run TASK (2 * hypothesis)) where
-    pub begins-with : Searching image budget (run-from (bookIn image) 0 budget (rootWith (bookIn image) hypothesis)) [] work′ first
-    begins-with =
-        begins (bookIn image) budget [] (rootWith (bookIn image) hypothesis)
-        (subst (λ (o : Run). Holds image (bookIn image) work′ o (rootWith (bookIn image) hypothesis ∷ [])) (sym is) (h .holds-with (bookIn image) hypothesis book known))
-        (ap (λ (o : Run). o .nodes) is ∙ h .nodes) (ap (λ (o : Run). o .count) is ∙ h .count) (omega arith)
-
-    pub stops-with : {after work″ : List ℕ} {last : Run} → Walked image budget [] work′ first after work″ last → length after ≡ 0
-        → Stopped (λ b. rootWith b hypothesis) image budget [] last
-    stops-with {last = last} w none = record {
-      b = bookIn image;
-      book = book;
-      ending =
-          subst (λ (l : List ℕ). Ending (run-from (bookIn image) 0 budget (rootWith (bookIn image) hypothesis)) l last) (no-entry _ none) (w .ending _ begins-with);
+    pub started-root : {from : Beginning} {first : Run} → from ≡ Root → Moved image work′ run work′ first TASK → Started image from work work′ first
+    started-root {first = first} i m = record {
+      holds = subst (λ (x : Beginning). Holds image its work′ first (beginsAt x its ∷ [])) (sym i) (m .holds its (root its ∷ []) run-holds);
+      state = omega (arith, m .state);
+      nodes = m .nodes ∙ ap (λ (o : Run). o .nodes) is-root;
+      count = m .count ∙ ap (λ (o : Run). o .count) is-root;
+      later = behind;
     }
+
+    pub started-with : {from : Beginning} {first : Run} (h : ℕ) → from ≡ RootWith h → Known from its → first ≡ giving run TASK (2 * h)
+        → Started image from work work′ first
+    started-with {first = first} h i k e =
+        let is : first ≡ giving (rootRun clauses) TASK (2 * h) = e ∙ ap (λ (o : Run). giving o TASK (2 * h)) is-root in
+        record {
+          holds = subst₂ (λ (x : Beginning) (o : Run). Holds image its work′ o (beginsAt x its ∷ [])) (sym i) (sym is) (with-holds h (known-with its i k));
+          state = ap (λ (o : Run). o .state) is;
+          nodes = ap (λ (o : Run). o .nodes) is;
+          count = ap (λ (o : Run). o .count) is;
+          later = behind;
+        }
+
+-- ---- the search begins at a node, and ends with what the rules give from it
+
+module _ {image work work′ : List ℕ} {from : Beginning} {first : Run} (h : Started image from work work′ first) (budget : ℕ) where
+  pub begins : (sets : List ℕ) → length sets ≤ longest
+      → Searching image budget (run-from (bookIn image) (length sets) budget (beginsAt from (bookIn image))) sets work′ first
+  begins sets few = record {
+    b = bookIn image;
+    all = beginsAt from (bookIn image) ∷ [];
+    holds = h .holds;
+    nodes = omega (arith, h .nodes);
+    count = omega (arith, h .count);
+    entries = few;
+    answer = go (first .nodes) (first .count) (h .nodes) (h .count);
+  }
+    where
+      go : (n c : ℕ) → n ≡ 0 → c ≡ 0
+          → run-from (bookIn image) (length sets) budget (beginsAt from (bookIn image))
+          ≡ Rules.run (bookIn image) (length sets) (budget - n) (beginsAt from (bookIn image) ∷ []) (take c sets) n
+      go n c p q = rw (p, q, sub-zero)
+
+  pub searched : {sets after work″ : List ℕ} {answer : Ended} → length sets ≤ longest → Walked image budget sets work′ first after work″ answer
+      → length after ≡ length sets → Searched image from budget work after work″ answer
+  searched {sets} {after} {answer = answer} few w same = record {
+    told =
+        subst (λ (n : ℕ). Told (run-from (bookIn image) n budget (beginsAt from (bookIn image))) after answer) (sym same) (w .told _ (begins sets few));
+    cleared = w .cleared ∙ ap (λ (l : List ℕ). zeros layout.end ++ l) (h .later);
+  }

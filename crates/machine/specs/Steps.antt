@@ -20,7 +20,8 @@ use Rattle.memory.specs.Machine.{nodeOf, literal, record-at, last, Holds, HandI
 use Rattle.memory.specs.Pieces.{inState, counting}
 use Rattle.visit.specs.Node.{counting-holds}
 use Rattle.memory.specs.Contracts.{Standing, Moved, StandingIn, Moves, Backed, back-to, over, Visited, Tasked, Success, SuccessKept, inserted, full, Went, visits}
-use Rattle.machine.specs.Contracts.{Onward, Placed, Searching, Ending, all-visited, out-of-budget, out-of-room, State, goes-on, ended, Somewhere, Passes, Stepped, ahead}
+use Rattle.machine.specs.Contracts.{Onward, Placed, Searching, Ending, all-visited, out-of-budget, out-of-room, State, goes-on, ended, Somewhere, Passes, Stepped, ahead, Tells}
+use Rattle.machine.specs.declared.Ended.the-variants.{Finished, UsedUp, NoRoom}
 
 -- ---- the rules' search, one node at a time
 
@@ -320,13 +321,21 @@ onward-same image work run e = record { next = λ budget outcome sets low x. go 
 
 -- ---- the whole
 
--- an end is told by a run's state, nodes and count alone
-pub ending-told : {outcome : Outcome} (sets : List ℕ) (run run′ : Run) → run′ .state ≡ run .state → run′ .nodes ≡ run .nodes → run′ .count ≡ run .count
-    → Ending outcome sets run → Ending outcome sets run′
-ending-told sets run run′ s n c (all-visited e l o) =
-    all-visited (s ∙ e) (omega (arith, l, c)) (o ∙ ap₂ (λ (k m : ℕ). finished (take k sets) m) (sym c) (sym n))
-ending-told sets run run′ s n c (out-of-budget e o) = out-of-budget (s ∙ e) (o ∙ ap Rules.used-up (sym n))
-ending-told sets run run′ s n c (out-of-room e o) = out-of-room (s ∙ e) (o ∙ ap no-room (sym n))
+-- an end is told by a run's state
+pub tells-over : (run : Run) → run .state ≡ OVER → Tells run (Finished (run .count) (run .nodes))
+tells-over run e outcome sets (all-visited i l o) = record { is = o; few = l }
+tells-over run e outcome sets (out-of-budget i o) = absurd (omega (arith, i, e))
+tells-over run e outcome sets (out-of-room i o) = absurd (omega (arith, i, e))
+
+pub tells-spent : (run : Run) → run .state ≡ SPENT → Tells run (UsedUp (run .nodes))
+tells-spent run e outcome sets (all-visited i l o) = absurd (omega (arith, i, e))
+tells-spent run e outcome sets (out-of-budget i o) = record { is = o; few = omega arith }
+tells-spent run e outcome sets (out-of-room i o) = absurd (omega (arith, i, e))
+
+pub tells-full : (run : Run) → (run .state ≡ OVER → ⊥) → (run .state ≡ SPENT → ⊥) → Tells run (NoRoom (run .nodes))
+tells-full run d e outcome sets (all-visited i l o) = absurd (d i)
+tells-full run d e outcome sets (out-of-budget i o) = absurd (e i)
+tells-full run d e outcome sets (out-of-room i o) = record { is = o; few = omega arith }
 
 module _ {image : List ℕ} {budget : ℕ} {outcome : Outcome} where
   pub still-searching : {sets work : List ℕ} {run : Run} {low : ℕ} → State image budget outcome sets work run TASK low → run .state ≡ TASK

@@ -1,20 +1,21 @@
 // The search, step by step, from where it stands to its end.
+use super::Ended;
 use area::END;
 use frames::back;
 use frames::choose;
 use memory::agenda::enter;
 use memory::agenda::front;
 use memory::run::AGENDA;
-use memory::run::Agenda;
 use memory::run::FAILED;
 use memory::run::LIST;
+use memory::run::OVER;
 use memory::run::Run;
+use memory::run::SPENT;
 use memory::run::TASK;
 use memory::run::WAY;
 use visit::visit;
-ghost use mathlib.Core.Path.{_≡_};
 ghost use Rattle.memory.specs.States.{TASK, AGENDA, LIST, WAY, FAILED};
-ghost use Rattle.machine.specs.Contracts.{Ready, Somewhere, Passes, Stepped, Walked, Placed, Onward};
+ghost use Rattle.machine.specs.Contracts.{Ready, Somewhere, Passes, Stepped, Tells, Walked, Placed, Onward};
 
 // A node that failed goes back.
 fn after_failure(work: &mut [u32], r: Run) -> Run
@@ -72,30 +73,23 @@ fn step(image: &[u8], budget: usize, sets: &mut [u64], work: &mut [u32], r: Run)
     after_agenda(image, work, entered)
 }
 
-// What counts of a run that has ended. The rest is dropped: to hand it out too would cost the loop 7 instructions in a hundred.
-fn ended(r: Run) -> Run
-    ensures { λ q. ⌜ (q .state ≡ r .state) × (q .nodes ≡ r .nodes) × (q .count ≡ r .count) ⌝ }
+// How a run has ended.
+fn ended(r: Run) -> Ended
+    ensures { λ e. ⌜ Tells r e ⌝ }
 {
-    Run {
-        state: r.state,
-        task: 0,
-        agenda: Agenda {
-            at: 0,
-            end: 0,
-            link: 0,
-        },
-        marked: 0,
-        top: 0,
-        nodes: r.nodes,
-        count: r.count,
-        set: 0,
+    if r.state == OVER {
+        return Ended::Finished(r.count, r.nodes);
     }
+    if r.state == SPENT {
+        return Ended::UsedUp(r.nodes);
+    }
+    Ended::NoRoom(r.nodes)
 }
 
 // From the first task to the end; and the work area is cleared.
-pub fn walk(image: &[u8], budget: usize, sets: &mut [u64], work: &mut [u32], first: Run) -> Run
+pub fn walk(image: &[u8], budget: usize, sets: &mut [u64], work: &mut [u32], first: Run) -> Ended
     requires { ⌜ Ready (now image) budget (now sets) (now work) first ⌝ }
-    ensures { λ q. ⌜ Walked (now (image .entry)) budget (now (sets .entry)) (now (work .entry)) first (now (sets .exit)) (now (work .exit)) q ⌝ }
+    ensures { λ e. ⌜ Walked (now (image .entry)) budget (now (sets .entry)) (now (work .entry)) first (now (sets .exit)) (now (work .exit)) e ⌝ }
 {
     let mut r = first;
     while r.state == TASK {

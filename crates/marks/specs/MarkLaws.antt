@@ -1,62 +1,21 @@
 -- The laws of marks: a mark more, in its word, is that atom's and no other's.
 -- Assumes nothing.
-use Prim.Native.Nat.{ℕ, zero, suc, _*_, _/_, _%_, _^_, max, _<_}
+use Prim.Native.Nat.{ℕ, zero, suc, _/_, _%_, _^_, _<_}
 use mathlib.Core.Path.{_≡_, refl, sym, ap, ap₂, _∙_}
-use mathlib.Core.Bool.{Bool, true, false, _||_}
-use mathlib.Core.Logic.{_⊎_, inl, inr, ⊎-elim}
+use mathlib.Core.Bool.{Bool, false, _||_}
+use mathlib.Core.Logic.{⊎-elim}
 use mathlib.Core.List.{List, [], _∷_}
 use native.Mathlib.Omega.{arith}
-use native.Mathlib.Nat.{pow-suc, zero-div, mod-lt, zero-lt-suc}
 use borrow.Author.Tests.{eqb-true, eqb-false, eq-eqb, ne-eqb}
-use lib.Bits.{bitOr, or-step, or-shr}
-use lib.Dec.{eqb, eqb·zero-suc, eqb·suc-zero, eqb·suc-suc}
+use lib.Bits.{bitOr}
+use lib.Dec.{eqb}
 use lib.ListN.{length, getD, set}
-use lib.Pow.{shl-exact}
 use lib.Seq.{getD-set-same, getD-set-other}
-use Rattle.base.specs.Bools.{decide, either, either-left, either-right, same-test}
+use Rattle.base.specs.Bools.{decide, same-test}
 use Rattle.base.specs.paper.Members.{has}
-use Rattle.sets.specs.SetLaws.{setBits, has-zero, has-suc}
+use Rattle.sets.specs.SetLaws.{setBits}
+use Rattle.sets.specs.Bits.{has-none, has-one, has-or}
 use Rattle.marks.specs.Marked.{words, markable, markIn}
-
--- ---- bits
-
--- nothing is in the empty set
-pub has-none : (j : ℕ) → has 0 j ≡ false
-has-none j = ap (λ (n : ℕ). eqb (n % 2) 1) (zero-div (2 ^ j))
-
--- the set of one member
-has-one : (j i : ℕ) → has (2 ^ j) i ≡ eqb j i
-has-one zero zero = refl
-has-one zero (suc i) = has-suc 1 i ∙ has-none i ∙ sym (eqb·zero-suc i)
-has-one (suc j) zero =
-    let even : 2 ^ suc j % 2 ≡ 0 = omega (arith, pow-suc 2 j) in
-    has-zero (2 ^ suc j) ∙ ap (λ (n : ℕ). eqb n 1) even ∙ sym (eqb·suc-zero j)
-has-one (suc j) (suc i) =
-    let half : 2 ^ suc j / 2 ≡ 2 ^ j = omega (arith, pow-suc 2 j) in
-    has-suc (2 ^ suc j) i ∙ ap (λ (n : ℕ). has n i) half ∙ has-one j i ∙ sym (eqb·suc-suc j i)
-
--- the greater of two digits is 1 where one of them is
-one-of : (x y : ℕ) → x < 2 → y < 2 → eqb (max x y) 1 ≡ (eqb x 1 || eqb y 1)
-one-of x y h k = same-test (λ t. there t (decide (eqb x 1))) (λ t. eq-eqb (max x y) 1 (back (either (eqb x 1) (eqb y 1) t)))
-  where
-    there : eqb (max x y) 1 ≡ true → (eqb x 1 ≡ true) ⊎ (eqb x 1 ≡ false) → (eqb x 1 || eqb y 1) ≡ true
-    there t (inl e) = either-left (eqb x 1) (eqb y 1) e
-    there t (inr e) = either-right (eqb x 1) (eqb y 1) (eq-eqb y 1 (omega (arith, eqb-true (max x y) 1 t, eqb-false x 1 e)))
-
-    back : (eqb x 1 ≡ true) ⊎ (eqb y 1 ≡ true) → max x y ≡ 1
-    back (inl e) = omega (arith, eqb-true x 1 e)
-    back (inr e) = omega (arith, eqb-true y 1 e)
-
-has-or : (a b i : ℕ) → has (bitOr a b) i ≡ (has a i || has b i)
-has-or a b i =
-    let x : ℕ = a / 2 ^ i in
-    let y : ℕ = b / 2 ^ i in
-    let low : bitOr x y % 2 ≡ max (x % 2) (y % 2) = omega (arith, or-step x y, mod-lt x (zero-lt-suc 1), mod-lt y (zero-lt-suc 1)) in
-    ap (λ (n : ℕ). eqb (n % 2) 1) (or-shr a b i) ∙ ap (λ (n : ℕ). eqb n 1) low ∙ one-of (x % 2) (y % 2) (mod-lt x (zero-lt-suc 1)) (mod-lt y (zero-lt-suc 1))
-
--- a member's set, as the code computes it
-pub bit-power : (j : ℕ) → j < setBits → 1 * 2 ^ j % 2 ^ setBits ≡ 2 ^ j
-bit-power j h = let e : 1 * 2 ^ j ≡ 2 ^ j = omega arith in shl-exact {a = 1} 1 j setBits (omega arith) (omega arith) ∙ e
 
 -- ---- words
 

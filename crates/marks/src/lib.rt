@@ -82,8 +82,11 @@ pub fn with_mark(marks: Marks, atom: u32) -> Marks
     ensures { λ r. ⌜ ((p : ℕ) → marked r p ≡ (eqb atom p || marked marks p)) ⌝ }
 {
     let which = atom / SET_BITS;
-    let bit = 1u64 << (atom % SET_BITS);
-    with_word(marks, which, bit | word(marks, which))
+    with_word(
+        marks,
+        which,
+        members::with_member(word(marks, which), atom % SET_BITS),
+    )
 }
 
 // Whether two have the same marks.

@@ -1,9 +1,8 @@
--- The set of an abducible as the code computes it, and that no set passes 64 bits.
+-- No set of a book's abducibles passes 64 bits.
 -- Assumes nothing.
-use Prim.Native.Nat.{ℕ, zero, suc, _+_, _*_, _%_, _^_, _≤_, _<_}
+use Prim.Native.Nat.{ℕ, zero, suc, _+_, _*_, _^_, _≤_, _<_}
 use native.Mathlib.Omega.{arith}
-use native.Mathlib.Nat.{pow-suc, mod-eq-of-lt}
-use mathlib.Core.Path.{_≡_, ap, _∙_}
+use native.Mathlib.Nat.{pow-suc}
 use mathlib.Core.Bool.{Bool, true, false}
 use mathlib.Core.List.{List}
 use lib.Pow.{pow-mono}
@@ -12,16 +11,6 @@ use Rattle.image.specs.paper.Book.{Lit, Book}
 use Rattle.image.specs.paper.Faults.{limits}
 use Rattle.searching.specs.paper.Rules.{gather, assumed, on}
 use Rattle.memory.specs.Places.{bits64}
-
-pub power-below : (p : ℕ) → p < 64 → 2 ^ p < bits64
-power-below p h = let m : 2 ^ suc p ≤ 2 ^ 64 = pow-mono {i = suc p} {j = 64} (omega arith) in omega (arith, m, pow-suc 2 p)
-
--- the set of an abducible as the code computes it
-pub bit-power : (p : ℕ) → p < 64 → 1 * 2 ^ p % bits64 ≡ 2 ^ p
-bit-power p h =
-    let q : 2 ^ p < bits64 = power-below p h in
-    let one : 1 * 2 ^ p ≡ 2 ^ p = omega arith in
-    ap (λ (n : ℕ). n % bits64) one ∙ mod-eq-of-lt q
 
 gather-below : (n : ℕ) (t : ℕ → Bool) → gather n t < 2 ^ n
 unfolding gather

@@ -1,7 +1,7 @@
 -- `visit::with_member` meets its contract. Assumes nothing.
 use native.Mathlib.Omega.{arith}
 use mathlib.Core.Path.{refl}
-use Rattle.memory.specs.Bits.{bit-power}
+use Rattle.sets.specs.Bits.{bit-power}
 use borrow.Author.Needs.{needs}
 use Rattle.visit.proofs.with_member.Statement.{statement}
 use Rattle.visit.proofs.with_member.Tie as tie

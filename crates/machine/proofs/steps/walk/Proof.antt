@@ -9,7 +9,7 @@ use Rattle.searching.specs.paper.Rules.{Outcome}
 use Rattle.area.specs.Area as layout
 use Rattle.memory.specs.States.{TASK}
 use Rattle.machine.specs.Contracts.{Searching, State, ahead}
-use Rattle.machine.specs.Steps.{still-searching, ending-told, state-ending, state-lower, started, stepped-falls}
+use Rattle.machine.specs.Steps.{still-searching, state-ending, state-lower, started, stepped-falls}
 use borrow.Author.Needs.{needs}
 use Rattle.machine.proofs.steps.walk.Statement.{statement}
 use Rattle.machine.proofs.steps.walk.Tie as tie
@@ -72,9 +72,8 @@ returns : tie.Need-returns Inv-loop μ-loop
 returns c =
     let m = c .before .before .before in
     let i = looped m .loop .inv in
-    let e = c .ended .ensures in
     record {
-      ending = λ outcome h. ending-told _ _ _ (e .0) (e .1) (e .2) (state-ending (i .0 outcome h) (m .before .before .if1 .left));
+      told = λ outcome h. c .ended .ensures outcome _ (state-ending (i .0 outcome h) (m .before .before .if1 .left));
       cleared = m .wipe .ensures ∙ ap (λ (l : List ℕ). zeros layout.end ++ l) (i .3);
     }
 

@@ -1,8 +1,8 @@
--- `judging::names_above` meets its contract. Assumes nothing.
-use Rattle.judging.proofs.Answer.{above, none-above}
+-- `sets::members::names_above` meets its contract. Assumes nothing.
+use Rattle.sets.specs.Bits.{above, none-above}
 use borrow.Author.Needs.{needs}
-use Rattle.judging.proofs.names_above.Statement.{statement}
-use Rattle.judging.proofs.names_above.Tie as tie
+use Rattle.sets.proofs.members.names_above.Statement.{statement}
+use Rattle.sets.proofs.members.names_above.Tie as tie
 
 returns : tie.Need-returns
 returns c = none-above _ _ (c .before .fits .set .fits) (c .if1 .taken)
