@@ -305,14 +305,15 @@ static uint64_t answer(uint64_t kind, uint64_t number, uint64_t nodes)
     return kind << 56 | number << 32 | nodes;
 }
 
-/* Each turn of the loop visits one node, whose first task has just been taken. */
-static uint64_t search(struct lister *l, uint32_t budget, size_t room)
+/* The search from the root, with these tasks ahead of its own. Each turn of the loop visits one node, whose first task
+ * has just been taken. */
+static uint64_t search(struct lister *l, uint32_t ahead, uint32_t budget, size_t room)
 {
     struct node n = {0};
     struct frame *top = l->frames;
     size_t kept = 0;
     uint32_t left = budget;
-    uint32_t task = next_task(l, &n);
+    uint32_t task = first_task(l, &n, ahead);
     for (;;) {
         if (left == 0)
             return answer(REFUSED, BUDGET_USED_UP, budget);
@@ -354,20 +355,50 @@ static uint64_t search(struct lister *l, uint32_t budget, size_t room)
     }
 }
 
+/* The refusal before any search, or 0. */
+static uint32_t refusal_of(const uint8_t *image, size_t length, uint32_t budget, size_t room, size_t work_length)
+{
+    uint32_t refusal = c_read(image, length);
+    if (refusal != 0)
+        return refusal;
+    return room > SETS ? LONG_LIST : work_length < WORK_NUMBERS ? SHORT_WORK : budget > MOST_BUDGET ? LARGE_BUDGET : 0;
+}
+
+/* The book's tables, in the lent work area. */
+static struct lister *tables(const uint8_t *image, uint32_t *work)
+{
+    struct lister *l = (struct lister *)(((uintptr_t)work + 7) & ~(uintptr_t)7);
+    read_book(l, image);
+    return l;
+}
+
 uint64_t c_list(const uint8_t *image, size_t length, uint32_t budget, uint64_t *sets, size_t room, uint32_t *work,
                 size_t work_length)
 {
-    uint32_t refusal = c_read(image, length);
-    if (refusal == 0)
-        refusal = room > SETS ? LONG_LIST : work_length < WORK_NUMBERS ? SHORT_WORK : budget > MOST_BUDGET ? LARGE_BUDGET : 0;
+    uint32_t refusal = refusal_of(image, length, budget, room, work_length);
     if (refusal != 0)
         return answer(REFUSED, refusal, 0);
-    struct lister *l = (struct lister *)(((uintptr_t)work + 7) & ~(uintptr_t)7);
-    read_book(l, image);
-    uint64_t result = search(l, budget, room);
+    struct lister *l = tables(image, work);
+    uint64_t result = search(l, NOTHING, budget, room);
     size_t listed = result >> 56 == LISTED ? result >> 32 & 0xffffff : 0;
     send_out(l->kept, listed, sets);
     memset(sets + listed, 0, 8 * (room - listed));
     memset(work, 0, 4 * WORK_NUMBERS);
     return result;
+}
+
+/* The hypothesis is wanted ahead of the goal, and there is room for no set, so that the first success ends the search. */
+uint64_t c_admits(const uint8_t *image, size_t length, uint32_t hypothesis, uint32_t budget, uint32_t *work,
+                  size_t work_length)
+{
+    uint32_t refusal = refusal_of(image, length, budget, 0, work_length);
+    if (refusal == 0 && hypothesis >= field_at(image, ABDUCIBLES_AT))
+        refusal = NOT_ABDUCIBLE;
+    if (refusal != 0)
+        return answer(REFUSED, refusal, 0);
+    uint64_t result = search(tables(image, work), 2 * hypothesis, budget, 0);
+    memset(work, 0, 4 * WORK_NUMBERS);
+    if (result >> 56 == LISTED)
+        return answer(EXCLUDED, 0, (uint32_t)result);
+    return (result >> 32 & 0xffffff) == NO_ROOM ? answer(ADMITTED, 0, (uint32_t)result) : result;
 }

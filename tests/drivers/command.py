@@ -16,8 +16,12 @@ import shutil
 import subprocess
 import sys
 import tempfile
+from collections import Counter
 from pathlib import Path
 
+from tests.generators.groups import group_records
+from tests.implementation.cleaner import packed_record, program_lines
+from tests.implementation.reader import read
 from tests.stored import books
 from tests.stored.stored_read import longest
 from tests.stored.stored_text import LONGEST_BOOK, SPIKE, SPIKE_LINES, SPIKE_WIDE, padded
@@ -80,6 +84,14 @@ def refuses(what, ran, out, part):
     """A refusal: status 1, this line, and a sentence with its number and this part."""
     number = out.split()[1]
     note(what, ran.status == 1 and ran.out == out and is_sentence(ran, f"refused {number}: ") and part in ran.err, ran)
+
+
+def holds(what, ran, out, refusals):
+    """Lines of groups, some of them held by a refusal: status 1, and a sentence for each of these numbers with how many groups have it."""
+    told = [f"wizogbare: refused {number} (groups: {count}): " for number, count in sorted(refusals.items())]
+    found = ran.err.splitlines()
+    meets = len(found) == len(told) and all(map(str.startswith, found, told))
+    note(what, (ran.status, ran.out) == (1, out) and meets, ran)
 
 
 def fails(what, ran, part):
@@ -361,6 +373,110 @@ def try_join_of_names(folder):
     fails("join of numbers that are none", run("join", objects, "-", given=b'{"sets": [["fish"]], "numbers": [[64]]}'), "no list of sets")
 
 
+# ---- groups
+
+def group(number, *observed):
+    return packed_record(number, observed)
+
+
+# Of the example: spike is atom 3, wake is atom 4.
+SOME_GROUPS = group(1) + group(300, 4) + group(65535, 3, 4)
+SOME_LINES = "group 1 held 0:possible 2:ruled-out\ngroup 300 held 0:possible 2:possible\ngroup 65535 held 0:possible 2:possible\n"
+BROKEN_GROUPS = group(1) + group(2, 0) + bytes.fromhex("0200020004") + group(3)[:-1]
+BROKEN_LINES = "group 1 deleted\ngroup 2 held refused 42\n" + 2 * "group ? held refused 41\n"
+LONGEST_GROUPS = 262_144
+
+
+def try_clean(folder):
+    groups, broken = folder / "groups", folder / "broken-groups"
+    groups.write_bytes(SOME_GROUPS)
+    broken.write_bytes(BROKEN_GROUPS)
+    for words in (["0", "2"], ["2", "0"], ["0", "2", "0"]):
+        answers(f"clean {words}", run("clean", EXAMPLE, groups, *words), SOME_LINES)
+    answers("clean, groups on standard input", run("clean", EXAMPLE, "-", "0", "2", given=SOME_GROUPS), SOME_LINES)
+    pipe = f"(head -c 6 {groups}; sleep 0.2; tail -c +7 {groups})"
+    answers("clean, groups from a pipe", shell(f"{pipe} | ./wizogbare clean {EXAMPLE} - 0 2"), SOME_LINES)
+    answers("clean, the book on standard input", run("clean", "-", groups, "0", "2", given=books.P1), SOME_LINES)
+    answers("clean, deleted", run("clean", EXAMPLE, "-", "2", given=group(7)), "group 7 deleted\n")
+    one = folder / "one-group"
+    one.write_bytes(group(0))
+    answers("clean, needed and possible", run("clean", "-", one, "0", "1", given=books.P8), "group 0 held 0:needed 1:possible\n")
+    answers("clean, unexplained", run("clean", "-", one, "0", given=books.P10), "group 0 held 0:unexplained\n")
+    answers("clean, no groups", run("clean", EXAMPLE, "-", "0"), "")
+    answers("clean, no groups and a broken book", run("clean", "-", os.devnull, "0"), "")
+    holds("clean, refusals", run("clean", EXAMPLE, broken, "2"), BROKEN_LINES, {41: 2, 42: 1})
+    holds("clean, a hypothesis of B", run("clean", EXAMPLE, one, "0", "3"), "group 0 held refused 23\n", {23: 1})
+    holds("clean, the largest hypothesis", run("clean", EXAMPLE, one, "63"), "group 0 held refused 23\n", {23: 1})
+    for number, damaged in books.REFUSED:
+        holds(f"clean, {number}", run("clean", "-", one, "0", given=damaged), f"group 0 held refused {number}\n", {number: 1})
+    part = "more than 262,144 bytes: cut it behind a group's record"
+    fails("clean, groups too long", run("clean", EXAMPLE, "-", "0", given=bytes(LONGEST_GROUPS + 1)), part)
+    lines = LONGEST_GROUPS // 3 * "group ? held refused 41\n" + "group ? held refused 41\n"
+    holds("clean, the longest groups", run("clean", EXAMPLE, "-", "0", given=bytes(LONGEST_GROUPS)), lines, {41: LONGEST_GROUPS // 3 + 1})
+
+
+def try_clean_json(folder):
+    groups, broken = folder / "groups", folder / "broken-groups"
+    told = [{"group": 1, "answer": "held", "verdicts": ["possible", "ruled out"]},
+            {"group": 300, "answer": "held", "verdicts": ["possible", "possible"]},
+            {"group": 65535, "answer": "held", "verdicts": ["possible", "possible"]}]
+    record("clean --json", run("clean", EXAMPLE, groups, "2", "0", "--json"), {"answer": "cleaned", "hypotheses": [0, 2], "groups": told})
+    record("clean --json of a text", run("clean", folder / "rules.txt", groups, "bubbles", "fish", "--json"),
+           {"answer": "cleaned", "hypotheses": ["fish", "bubbles"], "numbers": [0, 2], "groups": told})
+    record("clean --json, no groups", run("clean", EXAMPLE, "-", "0", "--json"), {"answer": "cleaned", "hypotheses": [0], "groups": []})
+    ran = run("clean", EXAMPLE, broken, "2", "--json")
+    sentences = {line.split()[2]: line.partition("): ")[2] for line in ran.err.splitlines()}
+    told = [{"group": 1, "answer": "deleted"}, {"group": 2, "answer": "held", "number": 42},
+            {"group": None, "answer": "held", "number": 41}, {"group": None, "answer": "held", "number": 41}]
+    record("clean --json, refusals", ran, {"answer": "cleaned", "hypotheses": [2], "groups": told, "sentences": sentences}, 1)
+
+
+def try_clean_of_text(folder):
+    rules, groups = folder / "rules.txt", folder / "groups"
+    named = SOME_LINES.replace("0:", "fish:").replace("2:", "bubbles:")
+    for words in (["fish", "bubbles"], ["bubbles", "0"], ["2", "fish", "0"]):
+        answers(f"clean of a text, {words}", run("clean", rules, groups, *words), named)
+    answers("clean of a text, standard input", run("clean", "-", groups, "fish", "bubbles", given=RULES), named)
+    holds("clean of a text, a name that is not abd", run("clean", rules, folder / "one-group", "spike"), "group 0 held refused 23\n", {23: 1})
+    refuses("clean of a text, an atom that no set has", run("clean", "-", groups, "y", given=MANY), "refused 23\n", "stands in abd( )")
+    refuses("clean of a text, 50", run("clean", "-", groups, "fish", given=b"?-"), "refused 50\n", "malformed")
+    fails("clean, a name that is not there", run("clean", rules, groups, "fish", "cod"), "rules.txt: this text has no `cod`")
+    fails("clean of an image, a name", run("clean", EXAMPLE, groups, "0", "fish"), "argument H: `fish` is no number from 0")
+    fails("clean of an image, a name, and its help", run("clean", EXAMPLE, groups, "fish"), "(see ./wizogbare clean --help)")
+
+
+def try_clean_faults(folder):
+    groups = folder / "groups"
+    fails("clean, no hypothesis", run("clean", EXAMPLE, groups), "required: H")
+    fails("clean, no groups", run("clean", EXAMPLE), "required: GROUPS, H")
+    fails("clean, both standard input", run("clean", "-", "-", "0"), "not both")
+    fails("clean, no such groups", run("clean", EXAMPLE, folder / "none", "0"), "none: there is no such file")
+    fails("clean, no such book", run("clean", folder / "none", groups, "0"), "none: there is no such file")
+    fails("clean, groups a folder", run("clean", EXAMPLE, folder, "0"), "this is a folder")
+    fails("clean, groups not to be read", run("clean", EXAMPLE, "/proc/self/mem", "0"), "this cannot be read")
+    fails("clean, hypothesis 64", run("clean", EXAMPLE, groups, "0", "64"), "64 is no abducible: they are numbered from 0 to 63")
+    fails("clean, budget", run("clean", EXAMPLE, groups, "0", "--budget", "5"), "clean has no option --budget")
+    for wrong in ("x", "-1", "", "1e3", "4294967296"):
+        fails(f"clean, hypothesis {wrong}", run("clean", EXAMPLE, groups, wrong), "is no number from 0")
+    fails("clean, output full", shell(f"./wizogbare clean {EXAMPLE} {groups} 0 >/dev/full"), "standard output cannot be written")
+
+
+def try_clean_files():
+    """Files of groups, sound and damaged, on the books that stand as images, as the implementation has them."""
+    for name, seed in (("example", 1), ("kelp", 2), ("ship", 3)):
+        image = (HERE / "books" / name).read_bytes()
+        for damaged in (False, True):
+            data = group_records(read(image), 100, seed, damaged)
+            lines = list(program_lines(image, data, 0b101))
+            refused = Counter(int(line.split()[-1]) for line in lines if " refused " in line)
+            ran = run("clean", f"books/{name}", "-", "0", "2", given=data)
+            out = "".join(line + "\n" for line in lines)
+            if refused:
+                holds(f"clean, groups of {name}, damaged {damaged}", ran, out, refused)
+            else:
+                answers(f"clean, groups of {name}, damaged {damaged}", ran, out)
+
+
 # ---- refusals
 
 def try_refusals():
@@ -447,7 +563,7 @@ def try_no_lists(folder):
 
 def try_usage():
     answers("--version", run("--version"), f"wizogbare {(HERE / 'VERSION').read_text()}")
-    for words in ([], ["list"], ["check"], ["judge"], ["verdict"], ["admits"], ["join"], ["image"]):
+    for words in ([], ["list"], ["check"], ["judge"], ["verdict"], ["admits"], ["clean"], ["join"], ["image"]):
         ran = run(*words, "--help")
         note(f"help {words}", ran.status == 0 and ran.out.startswith("usage: ./wizogbare") and ran.err == "", ran)
     fails("no command", run(), "COMMAND")
@@ -625,6 +741,9 @@ def main():
             attempt(folder)
         for attempt in (try_rules, try_names, try_refused_texts, try_image, try_image_faults, try_join_of_names):
             attempt(folder)
+        for attempt in (try_clean, try_clean_json, try_clean_of_text, try_clean_faults):
+            attempt(folder)
+        try_clean_files()
         checkout = Checkout(folder / "checkout")
         ahead = ordinary()
         if ahead is not None:

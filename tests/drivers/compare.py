@@ -11,6 +11,7 @@ import sys
 from tests.implementation.answers import Cases
 from tests.drivers.shared import Comparison, batches, options
 from tests.generators.cases import case
+from tests.implementation.cleaner import begun, members
 from tests.implementation.reader import Book, read
 from tests.implementation.search import explore, settled, started
 
@@ -24,30 +25,41 @@ class Figures:
     def note(self, packed):
         cases = Cases(packed)
         operation = cases.number(1)
-        if operation not in (1, 2, 3, 4, 13):
+        if operation not in (1, 2, 3, 4, 7, 13):
             return
         image = cases.image()
+        if operation == 7:
+            return self.note_group(image, *cases.group(), *cases.means())
         if isinstance(read(image), Book):
             self.image = max(self.image, len(image))
         if operation == 3:
-            self.note_searches(image, None, *cases.means())
+            self.note_searches(image, (), *cases.means())
         elif operation == 4:
-            self.note_searches(image, cases.number(4), *cases.means())
+            self.note_searches(image, (cases.number(4),), *cases.means())
         elif operation == 13:
             hypothesis, budget, work_length = cases.asked()
             book, refusal = started(image, budget, 0, work_length, hypothesis)
             if not refusal:
                 self.note_search(explore(book, budget, 0, hypothesis))
 
-    def note_searches(self, image, hypothesis, budget, room, work_length):
-        """The first search, and the second where the list does not settle the hypothesis."""
-        book, refusal = started(image, budget, room, work_length, hypothesis)
+    def note_group(self, image, record, hypotheses, *means):
+        """The searches of a group, on the book with its facts."""
+        number, packed = begun(image, record, hypotheses, *means)
+        if not number:
+            self.image = max(self.image, len(packed))
+            self.note_searches(packed, members(hypotheses), *means)
+
+    def note_searches(self, image, hypotheses, budget, room, work_length):
+        """The first search, and a second one for each hypothesis that the list does not settle."""
+        book, refusal = started(image, budget, room, work_length, max(hypotheses, default=None))
         if refusal:
             return
         first = explore(book, budget, room)
         self.note_search(first)
-        if hypothesis is not None and not first.refusal and not settled(first.kept, hypothesis):
-            self.note_search(explore(book, budget, 0, hypothesis))
+        if not first.refusal:
+            for hypothesis in hypotheses:
+                if not settled(first.kept, hypothesis):
+                    self.note_search(explore(book, budget, 0, hypothesis))
 
     def note_search(self, search):
         self.nodes = max(self.nodes, search.nodes)

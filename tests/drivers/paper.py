@@ -13,7 +13,7 @@ KIT = ("Prim.", "mathlib.Core.", "lib.")
 OWN = re.compile(r"Rattle·\w+(·specs\.specs|\.specs)\.(paper|declared)\.")
 DEFINES = re.compile(r"^(?P<indent> *)(?:(?:abbrev|unfoldable) pub (?P<name>[^\s:({]+)|pub (?:record|data) (?P<type>[^\s:({]+))")
 DECLARES = re.compile(r"^ *(?:(?:abbrev|unfoldable|pub|record|data) )*[^\s:({]+(?: [({][^)}]*[)}])* : ")
-FACES = ("book", "engine", "embed")
+FACES = ("book", "engine", "cleaner", "embed")
 ROW = re.compile(r"^\| *\d+ \| (?P<file>\S+) \| (?P<names>.*) \| *(?P<lines>\d+) \|$")
 
 

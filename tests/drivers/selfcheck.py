@@ -11,13 +11,15 @@ import random
 import re
 
 from tests.stored import books
-from tests.drivers import placing, tree
+from tests.drivers import cleaning, placing, tree
 from tests.drivers.shared import kind
-from tests.generators import asked, images, texts
+from tests.generators import asked, groups, images, surveys, texts
 from tests.implementation import text
 from tests.stored import stored, stored_names, stored_text
-from tests.implementation.answers import (BadCase, Cases, line, line_admits, line_join, line_judge, line_list, line_names, line_read, line_text,
-                                          line_verdict, lines, pack_admits, pack_judge, pack_list, pack_names, pack_read, pack_text, pack_verdict)
+from tests.implementation.answers import (BadCase, Cases, line, line_admits, line_clean, line_join, line_judge, line_list, line_names, line_read,
+                                          line_text, line_verdict, lines, pack_admits, pack_clean, pack_judge, pack_list, pack_names, pack_read,
+                                          pack_text, pack_verdict)
+from tests.implementation.cleaner import begun, clean, members, packed_record, parsed, program_lines, records, with_facts
 from tests.generators.images import choice_book, image, loop_book, small_book, sound_book
 from tests.implementation.joiner import join
 from tests.implementation.judge import explains, judge
@@ -376,11 +378,125 @@ def check_bad_cases():
     check(list(lines(short + short[:-1])) == [admitted, "bad case"], "a case of the second search cut short")
     check(list(lines(pack_admits(books.KELP, 1, 4, 20000) + short)) == [admitted, admitted], "a longest work area")
     check(list(lines(pack_admits(books.KELP, 1, 4, 20001) + short)) == ["bad case"], "a work area too long for a case")
+    short = pack_clean(books.P1, packed_record(7, ()), 4, 15, 2, 16384)
+    check(list(lines(short + short[:-1])) == ["deleted sets 1 2 work clean", "bad case"], "a case of the cleaner cut short")
+    check(list(lines(pack_clean(books.P1, bytes(1000), 4, 15, 0, 16384) + sound)) == ["refused 41 sets work untouched", "accepted"], "a longest record")
+    for each in ((bytes(1001), 4, 15, 2, 16384), (b"", 4, 15, 1101, 16384), (b"", 4, 15, 2, 20001)):
+        check(list(lines(pack_clean(books.P1, *each) + short)) == ["bad case"], "a record, room or work area too long for a case")
     try:
         line(sound + b"\0")
         check(False, "a byte after a case")
     except BadCase:
         check(True, "a byte after a case")
+
+
+# Groups.
+
+def check_clean_examples():
+    """Every line of the cleaner as replay writes it, and of the program above it."""
+    group = packed_record(300, (4,))
+    check(group == bytes.fromhex("010004012c0004") and parsed(group) == (300, [4]), "a record")
+    told = "held 0:possible 1:possible 2:possible sets 1 2 4 work clean"
+    check(line_clean(books.P1, group, 7, 18, 3, 16384) == told, "line of a group held")
+    check(line_clean(books.P1, packed_record(1, ()), 4, 15, 3, 20000) == "deleted sets 1 2 0 work clean", "line of a group deleted")
+    check(line_clean(books.P1, packed_record(1, ()), 5, 15, 3, 20000) == "held 0:possible 2:ruled-out sets 1 2 0 work clean", "line with ruled-out")
+    check(line_clean(books.P1, group, 7, 17, 2, 16384) == "refused 30 sets 0 0 work clean", "line of 30")
+    check(line_clean(books.P1, group, 7, 18, 2, 16384) == "refused 31 sets 0 0 work clean", "line of 31")
+    check(line_clean(books.P1, b"", 0, 18, 2, 16384) == "refused 40 sets 7 7 work untouched", "line of 40")
+    check(line_clean(books.REFUSED[8][1], b"", 0, 18, 1, 0) == "refused 9 sets 7 work untouched", "line of a book's own, without its place")
+    data = group + packed_record(2, ()) + packed_record(3, (0,)) + bytes.fromhex("0200020004 010000 01000400")
+    expected = ["group 300 held 2:possible", "group 2 deleted", "group 3 held refused 42"] + ["group ? held refused 41"] * 3
+    check(list(program_lines(books.P1, data, 4)) == expected, "lines of the program")
+    check(list(program_lines(books.P1, b"", 4)) == [], "no groups, no lines")
+    check(list(program_lines(books.REFUSED[8][1], group, 4)) == ["group 300 held refused 9"], "a broken book")
+
+
+def check_records():
+    """Records of every length with every length field about it: which are malformed."""
+    atoms = bytes([0, 7] + [0, 4] * 40)
+    for version, length, count in itertools.product((0, 1, 2), (*range(80), 256, 258, 512, 65535), range(76)):
+        record = bytes([version]) + length.to_bytes(2, "big") + atoms[:count]
+        check((parsed(record) is not None) == cleaning.is_record(record), record.hex())
+    for record in (b"", b"\1", b"\1\0", b"\1\2"):
+        check(parsed(record) is None, record.hex())
+
+
+def check_cleaning(count):
+    """Groups of small books, with hypotheses of every kind: deleted or held by all sets, refused by the whole trees; list and work area."""
+    rng = random.Random(21)
+    deleted = met = 0
+    while met < count:
+        book = (surveys.survey_book, asked.aside_book, surveys.survey_book, small_book)[met % 4](rng)
+        observed = [atom for atom in surveys.some_observed(rng, book) if book.abducibles <= atom < book.atoms]
+        group = with_facts(book, observed)
+        if not 0 < book.abducibles <= 7 or explore(group, 600, 1024).refusal:
+            continue
+        met += 1
+        packed, record = encode(book), packed_record(rng.randrange(65536), observed)
+        check(encode(group) == cleaning.group_image(packed, observed), (book, observed))
+        sets = cleaning.explaining(group)
+        every = range(1, 1 << book.abducibles)
+        for hypotheses in {every[-1], *rng.sample(every, min(len(every), 5)), *(1 << h for h in range(book.abducibles))}:
+            deleted += check_group(group, packed, record, hypotheses, sets)
+    check(deleted > count // 4, deleted)
+
+
+def check_group(group, packed, record, hypotheses, sets):
+    """One group with room enough and budgets about what it needs; whether it is deleted."""
+    budget, found = cleaning.nodes_needed(group, members(hypotheses))
+    room = len(found)
+    smallest = sorted(cleaning.least(sets), key=lambda s: (bin(s).count("1"), s))
+    verdicts = tuple((h, expected_verdict(sets, h)) for h in members(hypotheses))
+    goes = cleaning.may_go(sets, hypotheses)
+    given = clean(packed, record, hypotheses, budget, room, 16384)
+    check(given.answer == (("deleted",) if goes else ("held", verdicts)), (group, hypotheses))
+    check((given.entries, given.work) == (smallest + [0] * (room - len(smallest)), "clean"), (group, hypotheses))
+    short = clean(packed, record, hypotheses, budget - 1, room, 16384)
+    check((short.answer, short.entries, short.work) == (("refused", 30), [0] * room, "clean"), (group, hypotheses))
+    if smallest:
+        none = clean(packed, record, hypotheses, budget, len(smallest) - 1, 16384)
+        check((none.answer, none.entries) == (("refused", 31), [0] * (len(smallest) - 1)), (group, hypotheses))
+    return goes
+
+
+def check_clean_generators(count):
+    """Generated groups: refused before any search as a list of what may be wrong has it; every answer is met; no group's line depends on
+    those before it."""
+    rng = random.Random(22)
+    packed = [surveys.clean_case(rng) for _ in range(count)]
+    alone = [line(each) for each in packed]
+    met = set()
+    for each, answer in zip(packed, alone):
+        cases = Cases(each[1:])
+        given = (cases.image(), *cases.group(), *cases.means())
+        number = cleaning.first_wrong(*given)
+        check(begun(*given)[0] == number, each.hex())
+        check(answer.endswith(" work untouched") == bool(number), each.hex())
+        check(not number or answer.startswith(f"refused {number} sets"), each.hex())
+        met.add(kind(answer))
+        met |= set(re.findall(r":([a-z-]+)", answer))
+    check(met >= {"deleted", "held", "unexplained", "needed", "possible", "ruled-out"}, met)
+    check(met >= {f"refused {number}" for number in (4, 5, 6, 9, 20, 21, 22, 23, 30, 31, 40, 41, 42)}, met)
+    order = rng.sample(range(count), count // 4) * 2
+    check(list(lines(b"".join(packed[each] for each in order))) == [alone[each] for each in order], "groups in another order")
+
+
+def check_group_files(count):
+    """Files of groups: cut as they were put together, a line each, and the same line wherever a record stands."""
+    rng = random.Random(23)
+    for number in range(count):
+        book = surveys.survey_book(rng)
+        packed, hypotheses = encode(book), rng.randrange(1, 1 << book.abducibles)
+        data = groups.group_records(book, 20, number, number % 2 == 1)
+        cut = list(records(data))
+        told = list(program_lines(packed, data, hypotheses))
+        check(b"".join(cut) == data and len(cut) == len(told) == 20, data.hex())
+        apart = [list(program_lines(packed, record, hypotheses)) for record in cut]
+        check([[each] for each in told] == apart, data.hex())
+        last = [] if cleaning.is_record(cut[-1]) else [cut.pop()]
+        rng.shuffle(cut)
+        again = list(program_lines(packed, b"".join(cut + last), hypotheses))
+        check(sorted(again) == sorted(told), data.hex())
 
 
 # Texts.
@@ -602,6 +718,11 @@ def main():
     check_joiner(400)
     check_stored()
     check_bad_cases()
+    check_clean_examples()
+    check_records()
+    check_cleaning(300)
+    check_clean_generators(1800)
+    check_group_files(20)
     check_text_examples()
     check_grammar()
     check_every_byte()

@@ -1,10 +1,12 @@
-"""Holds docs/WRITING-BOOKS.md and the table of books/README.md against the independent implementation.
+"""Holds docs/WRITING-BOOKS.md, the table of books/README.md, its run of a survey and the groups of docs/CLEANING.md against the independent
+implementation.
 
     python3 -m tests.drivers.writing [--command]
 
 On the page a block of rules is a file, whose name stands in the command below it; behind each command stands what it prints on standard
 output. A name that begins with books/ is the file there. Every block of rules must have a command. In the table of mistakes what is written
-must be refused by 50, and what it should be accepted. `--command` runs ./wizogbare too, for which the program `desk` must be built. Ends
+must be refused by 50, and what it should be accepted. A row of docs/CLEANING.md with a record has what that observes in words, and its line; they and
+books/survey.lines are of the survey, with its dangers kept safe. `--command` runs ./wizogbare too, for which the program `desk` must be built. Ends
 with status 1 if anything differs.
 """
 
@@ -14,13 +16,15 @@ import sys
 import tempfile
 from pathlib import Path
 
-from tests.implementation import reader, text
+from tests.implementation import cleaner, reader, text
 from tests.implementation.judge import judge
 from tests.implementation.search import admits, listing, verdict
 
 HERE = Path(__file__).resolve().parents[2]
 PAGE = HERE / "docs/WRITING-BOOKS.md"
 BOOKS = HERE / "books"
+CLEANING = HERE / "docs/CLEANING.md"
+SURVEYED = ["clean", "books/survey.rules", "books/survey.groups", "rock", "wreck"]
 
 BUDGET, ROOM, WORK = 100_000, 256, 16_384
 MARGIN = "    "
@@ -154,6 +158,13 @@ def said_admits(book, words):
     return f"{admits(book.image, book.number(words[0]), option(words, '--budget', BUDGET), WORK).told()}\n"
 
 
+def clean_lines(book, groups, words):
+    """The lines of these groups, with the hypotheses as members of the book."""
+    hypotheses = sum(1 << book.number(word) for word in words)
+    for line in cleaner.program_lines(book.image, groups, hypotheses):
+        yield re.sub(r"\b(\d+):", lambda found: f"{book.member(int(found[1]))}:", line) + "\n"
+
+
 SAID = {"list": said_list, "check": said_check, "judge": said_judge, "verdict": said_verdict, "admits": said_admits}
 
 
@@ -168,6 +179,8 @@ def said(words, files):
         assert more[0] == "-o", words
         files.content[more[1]] = book.image
         return f"written {len(book.image)} bytes\n"
+    if job == "clean":
+        return "".join(clean_lines(book, files.read(more[0]), more[1:]))
     return SAID[job](book, more)
 
 
@@ -216,6 +229,23 @@ def row_of(path):
     return (path.name, same, str(len(book.document.statements)), sets)
 
 
+# The groups of docs/CLEANING.md.
+
+def group_rows():
+    """The rows that have a record: what is observed, the record, the line."""
+    return re.findall(r"^\| (.*) \| `([0-9a-f ]+)` \| `(group .*)` \|$", CLEANING.read_text(), re.MULTILINE)
+
+
+def group_row(record):
+    """The row that the record should have."""
+    book = Book((HERE / SURVEYED[1]).read_bytes())
+    group = bytes.fromhex(record)
+    line, = clean_lines(book, group, SURVEYED[3:])
+    found = cleaner.parsed(group)
+    observed = "no record" if found is None else ", ".join(f"`{book.member(atom)}`" for atom in found[1]) or "nothing"
+    return observed, record, line.rstrip("\n")
+
+
 def main():
     tried, differences = 0, 0
 
@@ -238,6 +268,13 @@ def main():
     note("a command for every block of rules", None, files.unnamed)
     for wrong, right in mistakes(page):
         note(f"a mistake: {wrong}", (50, 0), (refusal([wrong]), refusal(right)))
+    lines = (BOOKS / "survey.lines").read_text()
+    note("books/survey.lines", lines, said(SURVEYED, files))
+    if "--command" in sys.argv[1:]:
+        note(f"./wizogbare {' '.join(SURVEYED)}", lines, by_command(SURVEYED, files))
+    for row in group_rows():
+        note(f"a group: {row[2]}", row, group_row(row[1]))
+    note("groups on docs/CLEANING.md", True, len(group_rows()) > 0)
     note("books/README.md", sorted(rows()), sorted(row_of(path) for path in BOOKS.glob("*.rules")))
     images = {path.name for path in BOOKS.iterdir() if not path.suffix}
     note("the images in books/", sorted(images), sorted(image for _, image, _, _ in rows() if image))

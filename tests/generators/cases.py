@@ -3,9 +3,9 @@
 Written from the specification alone; shares no code with the engine.
 """
 
-from tests.generators import asked, images, texts
+from tests.generators import asked, images, surveys, texts
 
-CASES = {**images.CASES, **asked.CASES, **texts.CASES}
+CASES = {**images.CASES, **asked.CASES, **surveys.CASES, **texts.CASES}
 
 
 def case(rng, operation):

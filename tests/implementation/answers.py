@@ -10,6 +10,7 @@ answers a whole run of cases.
 import sys
 
 from tests.implementation import text
+from tests.implementation.cleaner import clean
 from tests.implementation.joiner import join
 from tests.implementation.judge import judge
 from tests.implementation.reader import Book, read
@@ -20,6 +21,7 @@ MOST_ROOM = 1100
 MOST_WORK = 20000
 LONGEST_CASE_TEXT = 40000
 MOST_BYTES = 10000  # a room in bytes
+LONGEST_CASE_RECORD = 1000
 
 
 class BadCase(Exception):
@@ -65,6 +67,11 @@ def pack_text(typed, room):
     return b"\x06" + pack_image(typed) + room.to_bytes(4, "big")
 
 
+def pack_clean(image, record, hypotheses, budget, room, work_length):
+    group = len(record).to_bytes(2, "big") + record + hypotheses.to_bytes(8, "big")
+    return b"\x07" + pack_image(image) + group + pack_means(budget, room, work_length)
+
+
 def pack_names(typed, room):
     return b"\x0c" + pack_image(typed) + room.to_bytes(4, "big")
 
@@ -102,6 +109,10 @@ def line_text(typed, room):
     return writing_line(text.read(typed, room))
 
 
+def line_clean(image, record, hypotheses, budget, room, work_length):
+    return result_line(clean(image, record, hypotheses, budget, room, work_length))
+
+
 def line_names(typed, room):
     return writing_line(text.names(typed, room))
 
@@ -119,7 +130,7 @@ def writing_line(output):
 
 
 def result_line(result):
-    """The line of a search: answer, node number, the place of a book's own fault, list, work area."""
+    """The line of a call that searches: what it tells, list, work area."""
     parts = (result.told(), "sets", *result.entries, "work", result.work)
     return " ".join(str(part) for part in parts)
 
@@ -157,6 +168,9 @@ class Cases:
     def text(self):
         return self.take(self.number(4, LONGEST_CASE_TEXT)), self.number(4, MOST_BYTES)
 
+    def group(self):
+        return self.take(self.number(2, LONGEST_CASE_RECORD)), self.number(8)
+
     def means(self):
         return self.number(4), self.number(2, MOST_ROOM), self.number(4, MOST_WORK)
 
@@ -178,6 +192,8 @@ class Cases:
             return line_join(self.sets(), self.sets(), self.number(2, MOST_ROOM))
         if operation == 6:
             return line_text(*self.text())
+        if operation == 7:
+            return line_clean(self.image(), *self.group(), *self.means())
         if operation == 12:
             return line_names(*self.text())
         if operation == 13:

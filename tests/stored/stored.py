@@ -12,7 +12,7 @@ import importlib
 import sys
 
 TABLES = {1: "tests.stored.stored_read", 2: "tests.stored.stored_judge", 3: "tests.stored.stored_list", 4: "tests.stored.stored_verdict", 5: "tests.stored.stored_join",
-          6: "tests.stored.stored_text", 12: "tests.stored.stored_names", 13: "tests.stored.stored_admits"}
+          6: "tests.stored.stored_text", 7: "tests.stored.stored_clean", 12: "tests.stored.stored_names", 13: "tests.stored.stored_admits"}
 
 
 def cases(operation):

@@ -24,20 +24,13 @@ pub fn judge(image: &[u8], set: u64) {
     }
 }
 
-// What a search leaves behind.
-fn left(sets: &[u64], work: &[u32]) {
-    output::entries(sets);
-    output::work_state(work);
-    output::end();
-}
-
 pub fn list(image: &[u8], budget: u32, sets: &mut [u64], work: &mut [u32]) {
     match engine::list(image, budget, sets, work) {
         Listing::Listed(k, n) => output::searched(b"listed ", k, n),
         Listing::Broken(r, place) => output::unsearched(r, place),
         Listing::Refused(r, n) => output::searched(b"refused ", r as u32, n),
     }
-    left(sets, work);
+    output::left(sets, work);
 }
 
 pub fn verdict(image: &[u8], hypothesis: u32, budget: u32, sets: &mut [u64], work: &mut [u32]) {
@@ -49,7 +42,7 @@ pub fn verdict(image: &[u8], hypothesis: u32, budget: u32, sets: &mut [u64], wor
         Verdict::Broken(r, place) => output::unsearched(r, place),
         Verdict::Refused(r, n) => output::searched(b"refused ", r as u32, n),
     }
-    left(sets, work);
+    output::left(sets, work);
 }
 
 pub fn admits(image: &[u8], hypothesis: u32, budget: u32, work: &mut [u32]) {

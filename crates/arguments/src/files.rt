@@ -56,6 +56,10 @@ fn unread(place: usize) {
     output::numbered(b"unread ", place as u64);
 }
 
+fn overlong(place: usize) {
+    output::numbered(b"overlong ", place as u64);
+}
+
 // The file's bytes, put at the front of the buffer, and how many they are.
 fn filled(fd: i32, place: usize, bytes: &mut [u8]) -> Length
     ensures { λ r. ⌜ r .value ≤ length (now (bytes .entry)) ⌝ }
@@ -83,5 +87,18 @@ pub fn take_file(place: usize, bytes: &mut [u8]) -> Length
     }
     let taken = filled(fd, place, bytes);
     libc::close(fd);
+    taken
+}
+
+// All bytes of the file that this argument names, which must be fewer than the buffer takes.
+pub fn take_whole(place: usize, bytes: &mut [u8]) -> Length
+    ensures { λ r. ⌜ r .value ≤ length (now (bytes .entry)) ⌝ }
+{
+    let room = bytes.len();
+    let taken = take_file(place, bytes);
+    if room <= taken.value {
+        overlong(place);
+        return no_length();
+    }
     taken
 }

@@ -4,6 +4,7 @@
 //   unfit P       argument P is missing, or is no number of its range
 //   unopened P    the file that argument P names cannot be opened
 //   unread P      it cannot be read
+//   overlong P    it has more bytes than its job takes
 pub mod files;
 pub mod numbers;
 

@@ -5,6 +5,9 @@ use Prim.Native.Nat.{ℕ}
 abbrev pub imageRoom : ℕ
 imageRoom = 16384
 
+abbrev pub groupRoom : ℕ
+groupRoom = 1000
+
 abbrev pub listEntries : ℕ
 listEntries = 1100
 

@@ -4,7 +4,7 @@ ghost use Prim.Native.Nat.{_≤_};
 ghost use mathlib.Core.Path.{_≡_};
 ghost use mathlib.Core.Bool.{true};
 ghost use lib.ListN.{length};
-ghost use Rattle.cases.specs.Buffers.{imageRoom, listEntries, areaNumbers};
+ghost use Rattle.cases.specs.Buffers.{imageRoom, groupRoom, listEntries, areaNumbers};
 
 pub struct Number {
     pub ok: bool,
@@ -28,8 +28,10 @@ pub struct Allowance {
     pub space: usize,
 }
 
-// The most that a case may name: bytes of an image, entries of a list, numbers of a work area.
+// The most that a case may name: bytes of an image and of a group's record, entries of a list, numbers of a work area.
 const IMAGE: usize = 16384;
+
+const GROUP: usize = 1000;
 
 pub const ENTRIES: usize = 1100;
 
@@ -44,6 +46,12 @@ pub fn image_buffer() -> [u8; IMAGE]
     ensures { λ r. ⌜ imageRoom ≡ length r ⌝ }
 {
     [0; IMAGE]
+}
+
+pub fn group_buffer() -> [u8; GROUP]
+    ensures { λ r. ⌜ groupRoom ≡ length r ⌝ }
+{
+    [0; GROUP]
 }
 
 pub fn list_buffer() -> [u64; ENTRIES]
@@ -135,25 +143,40 @@ fn no_length() -> Length
     }
 }
 
-// An image, or a text, put at the front of the buffer, and its length.
-pub fn take_image(image: &mut [u8]) -> Length
-    ensures { λ r. ⌜ r .value ≤ length (now (image .entry)) ⌝ }
+// As many bytes as the number says, put at the front of the buffer, and how many they are.
+fn take_bytes(n: Number, bytes: &mut [u8]) -> Length
+    ensures { λ r. ⌜ r .value ≤ length (now (bytes .entry)) ⌝ }
 {
-    let n = take_u32();
     if !n.ok {
         return no_length();
     }
     let len = n.value as usize;
-    if image.len() < len {
+    if bytes.len() < len {
         return no_length();
     }
-    if io::read_full(0, &mut image[..len]) < len {
+    if io::read_full(0, &mut bytes[..len]) < len {
         return no_length();
     }
     Length {
         ok: true,
         value: len,
     }
+}
+
+// An image, or a text, with a length of four bytes.
+pub fn take_image(image: &mut [u8]) -> Length
+    ensures { λ r. ⌜ r .value ≤ length (now (image .entry)) ⌝ }
+{
+    let n = take_u32();
+    take_bytes(n, image)
+}
+
+// A group's record, with a length of two bytes.
+pub fn take_group(group: &mut [u8]) -> Length
+    ensures { λ r. ⌜ r .value ≤ length (now (group .entry)) ⌝ }
+{
+    let n = take_u16();
+    take_bytes(n, group)
 }
 
 // The number as a length of at most `most`.

@@ -86,3 +86,10 @@ pub fn work_state(work: &[u32]) {
 pub fn end() {
     io::write_all(1, b"\n");
 }
+
+// What a search leaves behind, and the line ends.
+pub fn left(sets: &[u64], work: &[u32]) {
+    entries(sets);
+    work_state(work);
+    end();
+}

@@ -1,7 +1,8 @@
 // The engine's calls as jobs, for the command ./wizogbare. The first argument names the job, the others are what it takes, and
-// the answer is one line, whose first word says how the job ended; ` at P` stands behind refusals 1 to 9. All numbers are decimal. FILE is a file's name, or `-` for
-// standard input; at most its first 8,752 bytes are taken, one more than the longest image has, or of a TEXT its first 32,769, one
-// more than the longest text.
+// the answer is one line, whose first word says how the job ended; ` at P` stands behind refusals 1 to 9. Of clean it is a line for
+// each group, and none where there is no group. All numbers are decimal. FILE is a file's name, or `-` for standard input; at most
+// its first 8,752 bytes are taken, one more than the longest image has, or of a TEXT its first 32,769, one more than the longest
+// text. GROUPS is a file too, of at most 262,144 bytes, and H is below 64.
 //
 //   check FILE                              accepted | refused R
 //   judge FILE SET                          explains | goal P | constraint P | refused R
@@ -14,11 +15,13 @@
 //                                           standard input, each a count of two bytes and its sets of eight, big-endian
 //   image TEXT ROOM                         written N bytes, the bytes in hex, rest untouched | refused R room untouched (crate rooms)
 //   names TEXT ROOM                         as for image
+//   clean FILE GROUPS H...                  group G deleted | group G held and each verdict, as ` 0:needed 3:ruled-out` |
+//                                           group G held refused R; G is ? where the record is malformed
 //
 // Where there is no answer: `unknown` for another job, `unlisted` where standard input does not have the two lists, and
-// `unfit P`, `unopened P` and `unread P` for argument P (crate arguments).
+// `unfit P`, `unopened P`, `unread P` and `overlong P` for argument P (crate arguments).
 //
-// A job is found by its name here; the first five are in crate jobs, the last two in crate texts.
+// A job is found by its name here; the first six are in crate jobs, then two in crate texts, and the last in crate cleanings.
 
 use arguments::asked;
 use cases::output;
@@ -40,6 +43,8 @@ fn main() {
         texts::image();
     } else if asked(b"names") {
         texts::names();
+    } else if asked(b"clean") {
+        cleanings::clean();
     } else {
         output::line(b"unknown");
     }
