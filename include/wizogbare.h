@@ -84,11 +84,11 @@ enum {
 /* Bytes of stack that are enough for each call, with what memcpy and memset take; tests/drivers/stack measures them. Where these
  * two are bound at their first call, the dynamic linker takes stack of its own then: bind them at the start (-z now). */
 enum {
-    WIZOGBARE_STACK_READ = 5120,
+    WIZOGBARE_STACK_READ = 1024,
     WIZOGBARE_STACK_JUDGE = 34816,
     WIZOGBARE_STACK_LIST = 5120,
     WIZOGBARE_STACK_VERDICT = 5120,
-    WIZOGBARE_STACK_ADMITS = 5120,
+    WIZOGBARE_STACK_ADMITS = 1024,
     WIZOGBARE_STACK_JOIN = 5120,
     WIZOGBARE_STACK_TEXT = 290816,
     WIZOGBARE_STACK_NAMES = 290816

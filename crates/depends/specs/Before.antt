@@ -19,8 +19,7 @@ use Rattle.image.specs.Finds.{length-lits}
 use Rattle.image.specs.Spell.{ofLits, ofAlternative, ofClause, Stands}
 use Rattle.image.specs.StandsLaws.{stands-left}
 use Rattle.image.specs.Shown.{clauseAt, behindRecord, clausesAt, clauseCountAt, clause-at, record-ends, Shown}
-use Rattle.loops.specs.Records.{Recorded}
-use Rattle.depends.specs.Passing.{clauses-first, clauses-none}
+use Rattle.loops.specs.Records.{Recorded, clauses-first, clauses-none}
 
 -- the test of one atom
 abbrev pub dependsOnItself : List Clause → ℕ → ℕ → Bool
@@ -38,8 +37,8 @@ behind at cs = at + 2 * length (flat ofClause cs)
 -- ---- one record at a time
 
 -- a clause's record has the length that the clause is written with
-record-long : (s : List ℕ) (at n room : ℕ) → Recorded s at n room → 0 < n → behindRecord s at ≡ at + 2 * length (ofClause (clauseAt s at))
-record-long s at n room h some = go (h .clauses) (h .stands) (h .count)
+record-long : (s : List ℕ) (at n : ℕ) → Recorded s at n → 0 < n → behindRecord s at ≡ at + 2 * length (ofClause (clauseAt s at))
+record-long s at n h some = go (h .clauses) (h .stands) (h .count)
   where
     go : (cs : List Clause) → Stands s at (flat ofClause cs) → length cs ≡ n → behindRecord s at ≡ at + 2 * length (ofClause (clauseAt s at))
     go [] st e = absurd (omega arith)
@@ -68,13 +67,13 @@ module _ (s : List ℕ) (at n : ℕ) (t : ℕ → Bool) where
         omega arith
 
     -- it does not: the place is further on
-    pub before-pass : (room : ℕ) → Recorded s at n room → t (clauseAt s at .head) ≡ false
+    pub before-pass : Recorded s at n → t (clauseAt s at .head) ≡ false
         → behind (behindRecord s at) (before t (clausesAt s (behindRecord s at) (n - 1))) ≡ behind at (before t (clausesAt s at n))
-    before-pass room r h =
+    before-pass r h =
         let rest : List Clause = before t (clausesAt s (behindRecord s at) (n - 1)) in
         let all : length (flat ofClause (before t (clausesAt s at n))) ≡ length (ofClause (clauseAt s at) ++ flat ofClause rest) =
         ap (λ (cs : List Clause). length (flat ofClause cs)) (opened ∙ choose-false [] (clauseAt s at ∷ rest) h) in
-        omega (arith, record-long s at n room r some, length-append (ofClause (clauseAt s at)) (flat ofClause rest))
+        omega (arith, record-long s at n r some, length-append (ofClause (clauseAt s at)) (flat ofClause rest))
 
 -- an atom more that fails the test, among those that do
 pub free-more : (t f g : ℕ → Bool) (a : ℕ) → ((q : ℕ) → g q ≡ (eqb a q || f q)) → t a ≡ false → ((q : ℕ) → f q ≡ true → t q ≡ false)

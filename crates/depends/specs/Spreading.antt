@@ -11,29 +11,12 @@ use lib.Dec.{eqb}
 use borrow.Author.Tests.{eqb-true, eq-eqb, ne-eqb}
 use Rattle.base.specs.paper.Bools.{choose}
 use Rattle.base.specs.Bools.{decide, clash, choose-true, choose-false, either, either-left, either-right}
-use Rattle.base.specs.paper.Lists.{_∈_, Every, any}
+use Rattle.base.specs.paper.Lists.{_∈_, Every}
 use Rattle.base.specs.Lists.{any-some, some-any, every-first, every-rest}
 use Rattle.image.specs.paper.Book.{Lit, Clause}
 use Rattle.image.specs.paper.Loops.{Depends, direct, through, reached}
 use Rattle.image.specs.Reached.{Step, reached-step, step-reached, depends-reached}
-
--- the test that a body has an atom
-abbrev pub inBody : List Lit → ℕ → Bool
-inBody ls q = any (λ (l : Lit). eqb (l .atom) q) ls
-
-abbrev pub names : Clause → ℕ → Bool
-names c q = inBody (c .body) q
-
--- an atom of the body is marked: the rest of the body is left
-pub body-next : (s t r : Bool) → ((t || s) || r) ≡ (s || (t || r))
-body-next true true r = refl
-body-next true false r = refl
-body-next false true r = refl
-body-next false false r = refl
-
-pub body-over : (s : Bool) → s ≡ (s || false)
-body-over true = refl
-body-over false = refl
+use Rattle.loops.specs.Naming.{names}
 
 -- the marks behind one clause: with its body's atoms, if its head is p or is marked
 abbrev pub follow : ℕ → Clause → (ℕ → Bool) → ℕ → Bool

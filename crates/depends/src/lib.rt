@@ -3,15 +3,14 @@
 
 use image::fields;
 use image::front;
+use loops::mark_body;
 use marks::Marks;
 use marks::is_marked;
 use marks::none;
 use marks::same;
 use marks::with_mark;
 ghost use mathlib.Core.Path.{_≡_};
-ghost use mathlib.Core.Bool.{_||_};
-ghost use Prim.Native.Nat.{ℕ, _≤_, _<_};
-ghost use lib.ListN.{length};
+ghost use Prim.Native.Nat.{ℕ, _<_};
 ghost use Rattle.image.specs.paper.Book.{Book};
 ghost use Rattle.image.specs.paper.Front.{atomsAt};
 ghost use Rattle.image.specs.paper.Walk.{found};
@@ -20,30 +19,13 @@ ghost use Rattle.image.specs.paper.Loops.{reached};
 ghost use Rattle.image.specs.paper.Decode.{whole, loopPlace};
 ghost use Rattle.image.specs.Shown.{clausesAt};
 ghost use Rattle.marks.specs.Marked.{marked};
-ghost use Rattle.loops.specs.Records.{clauseIn, Small, Recorded};
-ghost use Rattle.loops.specs.Settling.{Known};
-ghost use Rattle.depends.specs.Spreading.{names, spread};
+ghost use Rattle.loops.specs.Records.{Recorded, Known};
+ghost use Rattle.depends.specs.Spreading.{spread};
 ghost use Rattle.depends.specs.Before.{dependsOnItself, before, behind};
-
-// Marks the atoms in the body of one clause, lent from its head to its record's end.
-fn mark_body(part: &[u8], already: Marks) -> Marks
-    requires { ⌜ (2 ≤ length (now part)) × Small (clauseIn (now part)) ⌝ }
-    ensures { λ r. ⌜ ((q : ℕ) → marked r q ≡ (marked already q || names (clauseIn (now (part .entry))) q)) ⌝ }
-{
-    let n = part.len();
-    let mut all = already;
-    let mut at = 2;
-    while at + 1 < n {
-        let literal = fields::field_at(part, at);
-        all = with_mark(all, literal / 2);
-        at += 2;
-    }
-    all
-}
 
 // One round over `many` clause records: the body of each clause whose head is the atom, or is marked by then, is marked.
 fn spread(image: &[u8], first: usize, many: u32, atom: u32, already: Marks) -> Marks
-    requires { ⌜ Recorded (now image) first many (limits .bodies) ⌝ }
+    requires { ⌜ Recorded (now image) first many ⌝ }
     ensures { λ r. ⌜ ((q : ℕ) → marked r q ≡ spread (clausesAt (now (image .entry)) first many) atom (marked already) q) ⌝ }
 {
     let mut all = already;
@@ -64,7 +46,7 @@ fn spread(image: &[u8], first: usize, many: u32, atom: u32, already: Marks) -> M
 
 // Whether an atom depends on itself. As many rounds as there are atoms are enough.
 fn depends_on_itself(image: &[u8], first: usize, many: u32, atoms: u32, atom: u32) -> bool
-    requires { ⌜ Recorded (now image) first many (limits .bodies) × Known atoms (clausesAt (now image) first many) × (atom < limits .atoms) ⌝ }
+    requires { ⌜ Recorded (now image) first many × Known atoms (clausesAt (now image) first many) × (atom < limits .atoms) ⌝ }
     ensures { λ r. ⌜ r ≡ reached (clausesAt (now (image .entry)) first many) atoms atom atom ⌝ }
 {
     let mut all = none();
@@ -86,7 +68,7 @@ fn depends_on_itself(image: &[u8], first: usize, many: u32, atoms: u32, atom: u3
 // The place of the first of `many` clause records whose head depends on itself, or the place behind them. `free` has the heads that were
 // met and do not.
 fn first_on_loop(image: &[u8], first: usize, many: u32, atoms: u32) -> usize
-    requires { ⌜ Recorded (now image) first many (limits .bodies) × Known atoms (clausesAt (now image) first many) ⌝ }
+    requires { ⌜ Recorded (now image) first many × Known atoms (clausesAt (now image) first many) ⌝ }
     ensures { λ r. ⌜ r ≡ behind first
         (before (dependsOnItself (clausesAt (now (image .entry)) first many) atoms) (clausesAt (now (image .entry)) first many)) ⌝ }
 {

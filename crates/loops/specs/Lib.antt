@@ -1,5 +1,6 @@
--- The loop check: mentions of atoms in bodies, the records that they stand in, and atoms that settle.
-pub mod Mentions
+-- The loop check's marks: the clause records as it reads them, their order, and what a round over them leaves.
 pub mod Records
-pub mod Queue
-pub mod Settling
+pub mod Naming
+pub mod Order
+pub mod Rounds
+pub mod Passing

@@ -6,9 +6,9 @@ use mathlib.Core.List.{List, [], _∷_}
 use native.Mathlib.Omega.{arith}
 use lib.ListN.{length, getD, take, drop, length-take, length-drop}
 use lib.Seq.{getD-take, getD-drop}
-use Rattle.base.specs.paper.Lists.{Every, sum, flat}
+use Rattle.base.specs.paper.Lists.{_∈_, Every, flat}
 use Rattle.base.specs.Lists.{every-first, every-rest}
-use Rattle.image.specs.paper.Book.{Lit, Clause, Book, bodyCount}
+use Rattle.image.specs.paper.Book.{Lit, Clause, Book}
 use Rattle.image.specs.paper.Walk.{found, fieldAt}
 use Rattle.image.specs.paper.Decode.{litOf, whole}
 use Rattle.image.specs.Written.{Within, whole-found}
@@ -17,7 +17,7 @@ use Rattle.image.specs.Finds.{length-lits}
 use Rattle.image.specs.Spell.{ofLits, ofClause, Stands}
 use Rattle.image.specs.StandsLaws.{stands-at, stands-left, stands-right, stands-value, stands-within}
 use Rattle.image.specs.Shown.{litsAt, clauseAt, behindRecord, clausesAt, clause-at, clauses-at, record-ends, clauseCountAt, Shown, words-shown}
-use Rattle.loops.specs.Mentions.{Mention, inClause, inClauses}
+use Rattle.image.specs.LoopLaws.{Bodied}
 use Rattle.image.specs.paper.Front.{atomsAt}
 
 -- the clause that a part of the image has, from its head to its record's end
@@ -29,13 +29,18 @@ pub record Small (c : Clause) : Type 0 where
   pub head : c .head < limits .atoms
   pub body : Every (λ (l : Lit). l .atom < limits .atoms) (c .body)
 
--- n clause records stand here, all of them small, and their bodies have no more literals than there is room for
-pub record Recorded (s : List ℕ) (at n room : ℕ) : Type 0 where
+-- n clause records stand here, all of them small
+pub record Recorded (s : List ℕ) (at n : ℕ) : Type 0 where
   pub clauses : List Clause
   pub stands : Stands s at (flat ofClause clauses)
   pub count : length clauses ≡ n
   pub small : Every Small clauses
-  pub fits : sum bodyCount clauses ≤ room
+
+-- every head and every atom of a body is one of the atoms, of which there are no more than the limit
+pub record Known (atoms : ℕ) (cs : List Clause) : Type 0 where
+  pub most : atoms ≤ limits .atoms
+  pub heads : (c : Clause) → c ∈ cs → c .head < atoms
+  pub bodies : Bodied atoms cs
 
 -- ---- a part of the image
 
@@ -68,47 +73,56 @@ lits-over s n at h = let e : (n - at) / 2 ≡ 0 = omega arith in ap (litsAt s at
 -- ---- the records, one after the other
 
 -- the first of the records that are laid here
-pub record Leads (s : List ℕ) (at room : ℕ) : Type 0 where
+pub record Leads (s : List ℕ) (at : ℕ) : Type 0 where
   pub some : 2 ≤ fieldAt s at
   pub ends : behindRecord s at ≤ length s
+  pub long : fieldAt s at ≡ 2 + 2 * length (clauseAt s at .body)
   pub small : Small (clauseAt s at)
-  pub fits : bodyOf (fieldAt s at) ≤ room
 
-pub recorded-first : (s : List ℕ) (at n room : ℕ) → Recorded s at n room → 0 < n → Leads s at room
-recorded-first s at n room h k = go (h .clauses) (h .stands) (h .count) (h .small) (h .fits)
+pub recorded-first : (s : List ℕ) (at n : ℕ) → Recorded s at n → 0 < n → Leads s at
+recorded-first s at n h k = go (h .clauses) (h .stands) (h .count) (h .small)
   where
-    go : (cs : List Clause) → Stands s at (flat ofClause cs) → length cs ≡ n → Every Small cs → sum bodyCount cs ≤ room → Leads s at room
-    go [] st e small fits = absurd (omega arith)
-    go (c ∷ cs) st e small fits =
+    go : (cs : List Clause) → Stands s at (flat ofClause cs) → length cs ≡ n → Every Small cs → Leads s at
+    go [] st e small = absurd (omega arith)
+    go (c ∷ cs) st e small =
         let first : Stands s at (ofClause c) = stands-left (ofClause c) (flat ofClause cs) st in
         let size : fieldAt s at ≡ 2 * suc (length (ofLits (c .body))) = stands-value first in
         let within : at + 2 * length (ofClause c) ≤ length s = stands-within (2 * suc (length (ofLits (c .body)))) (c .head ∷ ofLits (c .body)) first in
+        let same : length (clauseAt s at .body) ≡ length (c .body) = ap (λ (d : Clause). length (d .body)) (clause-at s at c first) in
         record {
           some = omega arith;
           ends = omega arith;
+          long = omega (arith, length-lits (c .body));
           small = subst Small (sym (clause-at s at c first)) (every-first small);
-          fits = omega (arith, length-lits (c .body));
         }
 
-pub recorded-rest : (s : List ℕ) (at n room : ℕ) → Recorded s at n room → 0 < n → Recorded s (behindRecord s at) (n - 1) (room - bodyOf (fieldAt s at))
-recorded-rest s at n room h k = go (h .clauses) (h .stands) (h .count) (h .small) (h .fits)
+pub recorded-next : (s : List ℕ) (at n : ℕ) → Recorded s at n → 0 < n → Recorded s (behindRecord s at) (n - 1)
+recorded-next s at n h k = go (h .clauses) (h .stands) (h .count) (h .small)
   where
-    go : (cs : List Clause) → Stands s at (flat ofClause cs) → length cs ≡ n → Every Small cs → sum bodyCount cs ≤ room
-        → Recorded s (behindRecord s at) (n - 1) (room - bodyOf (fieldAt s at))
-    go [] st e small fits = absurd (omega arith)
-    go (c ∷ cs) st e small fits =
+    go : (cs : List Clause) → Stands s at (flat ofClause cs) → length cs ≡ n → Every Small cs → Recorded s (behindRecord s at) (n - 1)
+    go [] st e small = absurd (omega arith)
+    go (c ∷ cs) st e small =
         let first : Stands s at (ofClause c) = stands-left (ofClause c) (flat ofClause cs) st in
-        let size : fieldAt s at ≡ 2 * suc (length (ofLits (c .body))) = stands-value first in
         record {
           clauses = cs;
           stands = stands-at (sym (record-ends s at (c .head ∷ ofLits (c .body)) first)) (stands-right (ofClause c) st);
           count = omega arith;
           small = every-rest small;
-          fits = omega (arith, length-lits (c .body));
         }
 
+pub clauses-first : (s : List ℕ) (at n : ℕ) → 0 < n → clausesAt s at n ≡ clauseAt s at ∷ clausesAt s (behindRecord s at) (n - 1)
+unfolding clausesAt
+clauses-first s at zero h = absurd (omega arith)
+clauses-first s at (suc n) h =
+    let e : n ≡ suc n - 1 = omega arith in
+    ap (λ (k : ℕ). clauseAt s at ∷ clausesAt s (behindRecord s at) k) e
+
+pub clauses-none : (s : List ℕ) (at n : ℕ) → n ≡ 0 → clausesAt s at n ≡ []
+unfolding clausesAt
+clauses-none s at n e = ap (clausesAt s at) e
+
 -- the first clause, as the part of the image from its head to its record's end
-module _ (image : List ℕ) (at room end : ℕ) (leads : Leads image at room) (is-end : end ≡ behindRecord image at) where
+module _ (image : List ℕ) (at end : ℕ) (leads : Leads image at) (is-end : end ≡ behindRecord image at) where
   abbrev part : List ℕ
   part = take (end - (at + 2)) (drop (at + 2) image)
 
@@ -120,7 +134,7 @@ module _ (image : List ℕ) (at room end : ℕ) (leads : Leads image at room) (i
       let left : length (drop (at + 2) image) ≡ length image - (at + 2) = length-drop (at + 2) image in
       omega arith
 
-  pub body-count : (length part - 2) / 2 ≡ bodyOf (fieldAt image at)
+  body-count : (length part - 2) / 2 ≡ bodyOf (fieldAt image at)
   body-count = let some : 2 ≤ fieldAt image at = leads .some in omega (arith, part-long)
 
   pub clause-part : clauseIn part ≡ clauseAt image at
@@ -138,19 +152,6 @@ module _ (image : List ℕ) (at room end : ℕ) (leads : Leads image at room) (i
             i;
       }
 
--- the mentions in n records, one record at a time
-pub clauses-next : (s : List ℕ) (at n : ℕ) (ms : List Mention) → 0 < n
-    → inClauses (clausesAt s at n) ms ≡ inClauses (clausesAt s (behindRecord s at) (n - 1)) (inClause (clauseAt s at) ms)
-unfolding inClauses clausesAt
-clauses-next s at zero ms h = absurd (omega arith)
-clauses-next s at (suc n) ms h =
-    let d : n ≡ suc n - 1 = omega arith in
-    ap (λ (k : ℕ). inClauses (clausesAt s (behindRecord s at) k) (inClause (clauseAt s at) ms)) d
-
-pub clauses-over : (s : List ℕ) (at n : ℕ) (ms : List Mention) → n ≡ 0 → inClauses (clausesAt s at n) ms ≡ ms
-unfolding inClauses clausesAt
-clauses-over s at n ms e = ap (λ (k : ℕ). inClauses (clausesAt s at k) ms) e
-
 -- ---- the clauses of a book that the walk found
 
 pub record Ready (s : List ℕ) (b : Book) : Type 0 where
@@ -166,7 +167,7 @@ module _ (image : List ℕ) (book : Book) (ready : Ready image book) (at count :
   pub ready-count : count ≡ length (book .clauses)
   ready-count = is-count ∙ ap (fieldAt image) is-at ∙ ready .shown .clauses
 
-  pub ready-recorded : Recorded image (at + 2) count (limits .bodies)
+  pub ready-recorded : Recorded image (at + 2) count
   ready-recorded =
       let small : book .atoms ≤ limits .atoms = ready .within .atoms in
       record {
@@ -180,7 +181,6 @@ module _ (image : List ℕ) (book : Book) (ready : Ready image book) (at count :
               head = let h : c .head < book .atoms = f .known in omega arith;
               body = λ l k. let h : l .atom < book .atoms = f .named l k in omega arith;
             };
-        fits = ready .within .bodies;
       }
 
   pub ready-clauses : clausesAt image (at + 2) count ≡ book .clauses

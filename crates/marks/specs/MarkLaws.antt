@@ -1,8 +1,8 @@
--- The laws of marks: a mark more, in its word, is that atom's and no other's.
+-- The laws of marks: a mark more, in its word, is that atom's and no other's; and where nothing is marked, each word is 0.
 -- Assumes nothing.
-use Prim.Native.Nat.{ℕ, zero, suc, _/_, _%_, _^_, _<_}
+use Prim.Native.Nat.{ℕ, zero, suc, _+_, _*_, _/_, _%_, _^_, _<_}
 use mathlib.Core.Path.{_≡_, refl, sym, ap, ap₂, _∙_}
-use mathlib.Core.Bool.{Bool, false, _||_}
+use mathlib.Core.Bool.{Bool, true, false, _||_}
 use mathlib.Core.Logic.{⊎-elim}
 use mathlib.Core.List.{List, [], _∷_}
 use native.Mathlib.Omega.{arith}
@@ -11,9 +11,9 @@ use lib.Bits.{bitOr}
 use lib.Dec.{eqb}
 use lib.ListN.{length, getD, set}
 use lib.Seq.{getD-set-same, getD-set-other}
-use Rattle.base.specs.Bools.{decide, same-test}
+use Rattle.base.specs.Bools.{decide, clash, same-test}
 use Rattle.base.specs.paper.Members.{has}
-use Rattle.sets.specs.SetLaws.{setBits}
+use Rattle.sets.specs.SetLaws.{setBits, same-members, within-has}
 use Rattle.sets.specs.Bits.{has-none, has-one, has-or}
 use Rattle.marks.specs.Marked.{words, markable, markIn}
 
@@ -59,3 +59,15 @@ mark-none p = ap (λ (n : ℕ). has n (p % setBits)) (zeros (p / setBits)) ∙ h
     zeros (suc (suc zero)) = refl
     zeros (suc (suc (suc zero))) = refl
     zeros (suc (suc (suc (suc w)))) = refl
+
+-- where nothing is marked, a word is 0
+pub none-mark : (ws : List ℕ) (which : ℕ) → getD ws which 0 < 2 ^ setBits → ((p : ℕ) → markIn ws p ≡ false) → getD ws which 0 ≡ 0
+unfolding markIn
+none-mark ws which fits none = same-members (getD ws which 0) 0 (λ j. ⊎-elim (λ h. clash h (off j h)) (λ h. h ∙ sym (has-none j)) (decide (has (getD ws which 0) j)))
+  where
+    off : (j : ℕ) → has (getD ws which 0) j ≡ true → has (getD ws which 0) j ≡ false
+    off j h =
+        let low : j < setBits = within-has (getD ws which 0) setBits fits j h in
+        let word : which ≡ (which * setBits + j) / setBits = omega arith in
+        let bit : j ≡ (which * setBits + j) % setBits = omega arith in
+        ap₂ (λ (w i : ℕ). has (getD ws w 0) i) word bit ∙ none (which * setBits + j)

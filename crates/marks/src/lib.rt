@@ -104,3 +104,19 @@ pub fn same(left: Marks, right: Marks) -> bool
     }
     left.fourth == right.fourth
 }
+
+// Whether no atom is marked.
+pub fn is_none(marks: Marks) -> bool
+    ensures { λ r. ⌜ (r ≡ true) ↔ ((p : ℕ) → marked marks p ≡ false) ⌝ }
+{
+    if marks.first != 0 {
+        return false;
+    }
+    if marks.second != 0 {
+        return false;
+    }
+    if marks.third != 0 {
+        return false;
+    }
+    marks.fourth == 0
+}

@@ -11,10 +11,9 @@ use Rattle.base.specs.Bools.{clash}
 use Rattle.image.specs.paper.Book.{Clause}
 use Rattle.image.specs.paper.Faults.{limits}
 use Rattle.image.specs.Shown.{clauseAt, behindRecord, clausesAt}
-use Rattle.loops.specs.Records.{Recorded, Leads, recorded-first}
+use Rattle.loops.specs.Records.{Recorded, Leads, recorded-first, recorded-next}
 use Rattle.marks.specs.declared.Marks.{Marks}
 use Rattle.marks.specs.Marked.{marked}
-use Rattle.depends.specs.Passing.{recorded-next}
 use Rattle.depends.specs.Before.{dependsOnItself, before, behind, before-over, before-found, before-pass, free-more}
 use Rattle.depends.proofs.first_on_loop.Statement.{statement}
 use Rattle.depends.proofs.first_on_loop.Tie as tie
@@ -26,7 +25,7 @@ Free cs atoms m = (q : ℕ) → marked m q ≡ true → dependsOnItself cs atoms
 abbrev Inv-loop : tie.InvT-loop
 Inv-loop image first many atoms free₀ at₀ i₀ free at i =
     (i ≤ many)
-    × Recorded image at (many - i) (limits .bodies)
+    × Recorded image at (many - i)
     × Free (clausesAt image first many) atoms free
     × (behind at (before (dependsOnItself (clausesAt image first many) atoms) (clausesAt image at (many - i)))
     ≡ behind first (before (dependsOnItself (clausesAt image first many) atoms) (clausesAt image first many)))
@@ -35,8 +34,8 @@ abbrev μ-loop : tie.MeasureT-loop
 μ-loop image first many atoms free₀ at₀ i₀ free at i = many - i
 
 -- the record that the loop has come to
-lead : (c : tie.In-loop Inv-loop μ-loop) → Leads (c .before .before .before .before .args .image .now) (c .before .loop .at) (limits .bodies)
-lead c = recorded-first _ _ _ _ (c .before .loop .inv .1) (omega arith)
+lead : (c : tie.In-loop Inv-loop μ-loop) → Leads (c .before .before .before .before .args .image .now) (c .before .loop .at)
+lead c = recorded-first _ _ _ (c .before .loop .inv .1) (omega arith)
 
 -- where it ends
 ends : (m : tie.After-field-at Inv-loop μ-loop)
@@ -134,10 +133,10 @@ loop-again c =
     let end : behindRecord s (l .at) ≡ l .at + 2 + m .before .field-at .result = sym (ends (m .before)) in
     let on = passed c in (
       omega arith,
-      subst₂ (λ (p k : ℕ). Recorded s p k (limits .bodies)) end left (recorded-next s (l .at) n _ (l .inv .1) (omega arith)),
+      subst₂ (Recorded s) end left (recorded-next s (l .at) n (l .inv .1) (omega arith)),
       on .1,
       ap₂ (λ (p k : ℕ). behind p (before t (clausesAt s p k))) (sym end) (sym left)
-          ∙ before-pass s (l .at) n t (omega arith) _ (l .inv .1) (ap t (headed m) ∙ on .0)
+          ∙ before-pass s (l .at) n t (omega arith) (l .inv .1) (ap t (headed m) ∙ on .0)
           ∙ l .inv .3,
     )
 

@@ -2,7 +2,7 @@
 use mathlib.Core.Path.{sym, _∙_, subst₂}
 use native.Mathlib.Omega.{arith}
 use Rattle.image.specs.Shown.{shown-front, shown-clauses}
-use Rattle.loops.specs.Settling.{Known}
+use Rattle.loops.specs.Records.{Known}
 use Rattle.loops.specs.Records.{found-ready, ready-recorded, ready-clauses}
 use Rattle.depends.specs.Before.{loop-place}
 use Rattle.depends.proofs.place.Statement.{statement}

@@ -7,28 +7,28 @@ use mathlib.Core.Logic.{inl, inr, ⊎-elim}
 use native.Mathlib.Omega.{arith}
 use native.Mathlib.Nat.{sub-zero}
 use Rattle.image.specs.paper.Book.{Clause}
-use Rattle.image.specs.paper.Faults.{limits}
 use Rattle.image.specs.Shown.{clauseAt, behindRecord, clausesAt}
-use Rattle.loops.specs.Records.{Small, Recorded, Leads, recorded-first, part-long, clause-part}
+use Rattle.loops.specs.Records.{Small, Recorded, Leads, recorded-first, recorded-next, part-long, clause-part}
+use Rattle.loops.specs.Naming.{names}
 use Rattle.marks.specs.declared.Marks.{Marks}
 use Rattle.marks.specs.Marked.{marked}
-use Rattle.depends.specs.Spreading.{names, follow, spread, follow-leading, follow-other}
-use Rattle.depends.specs.Passing.{recorded-next, spread-next, spread-over}
+use Rattle.depends.specs.Spreading.{follow, spread, follow-leading, follow-other}
+use Rattle.depends.specs.Passing.{spread-next, spread-over}
 use Rattle.depends.proofs.spread.Statement.{statement}
 use Rattle.depends.proofs.spread.Tie as tie
 
 abbrev Inv-loop : tie.InvT-loop
 Inv-loop image first many atom all₀ at₀ i₀ all at i =
     (i ≤ many)
-    × Recorded image at (many - i) (limits .bodies)
+    × Recorded image at (many - i)
     × ((q : ℕ) → spread (clausesAt image at (many - i)) atom (marked all) q ≡ spread (clausesAt image first many) atom (marked all₀) q)
 
 abbrev μ-loop : tie.MeasureT-loop
 μ-loop image first many atom all₀ at₀ i₀ all at i = many - i
 
 -- the record that the loop has come to
-lead : (c : tie.In-loop Inv-loop μ-loop) → Leads (c .before .before .before .args .image .now) (c .before .loop .at) (limits .bodies)
-lead c = recorded-first _ _ _ _ (c .before .loop .inv .1) (omega arith)
+lead : (c : tie.In-loop Inv-loop μ-loop) → Leads (c .before .before .before .args .image .now) (c .before .loop .at)
+lead c = recorded-first _ _ _ (c .before .loop .inv .1) (omega arith)
 
 -- where it ends
 behind : (m : tie.After-field-at Inv-loop μ-loop)
@@ -77,7 +77,7 @@ mark-body-requires : tie.Need-mark-body-requires Inv-loop μ-loop
 mark-body-requires c κs =
     let m = c .before .before .before in
     let h = lead (m .before) in
-    (omega (arith, part-long _ _ _ _ h (behind m), h .some), subst Small (sym (clause-part _ _ _ _ h (behind m))) (h .small))
+    (omega (arith, part-long _ _ _ h (behind m), h .some), subst Small (sym (clause-part _ _ _ h (behind m))) (h .small))
 
 add-i : tie.Need-add-i Inv-loop μ-loop
 add-i c = omega arith
@@ -100,7 +100,7 @@ passed c q =
     (λ w.
     ap (λ (r : Marks). marked r q) (w .3)
     ∙ w .2 .ensures q
-    ∙ ap (λ (x : Clause). f q || names x q) (clause-part _ _ _ _ (lead (m .before .before)) (behind (m .before)))
+    ∙ ap (λ (x : Clause). f q || names x q) (clause-part _ _ _ (lead (m .before .before)) (behind (m .before)))
     ∙ sym
     (follow-leading (e .args .atom) d f
     (⊎-elim (λ h. inl (headed m ∙ h .taken)) (λ h. inr (ap f (headed m) ∙ sym (h .1 .ensures) ∙ h .2 .taken)) (w .0 .came)) q))
@@ -119,7 +119,7 @@ loop-again c =
     let left : n - 1 ≡ e .args .many - (l .i + 1) = omega arith in
     let end : behindRecord s (l .at) ≡ l .at + 2 + m .before .field-at .result = sym (behind (m .before)) in (
       omega arith,
-      subst₂ (λ (p k : ℕ). Recorded s p k (limits .bodies)) end left (recorded-next s (l .at) n _ (l .inv .1) (omega arith)),
+      subst₂ (Recorded s) end left (recorded-next s (l .at) n (l .inv .1) (omega arith)),
       λ q.
           ap₂ (λ (p k : ℕ). spread (clausesAt s p k) (e .args .atom) (marked (c .if1 .all)) q) (sym end) (sym left)
           ∙ spread-next s (l .at) n (e .args .atom) (marked (l .all)) (marked (c .if1 .all)) (omega arith) (passed c) q

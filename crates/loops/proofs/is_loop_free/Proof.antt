@@ -5,9 +5,8 @@ use Prim.Native.Nat.{ℕ}
 use native.Mathlib.Omega.{arith}
 use Rattle.image.specs.paper.Book.{Clause}
 use Rattle.image.specs.paper.Loops.{quiet, loopFree}
-use Rattle.loops.specs.Settling.{Known}
 use Rattle.image.specs.Shown.{shown-front, shown-clauses}
-use Rattle.loops.specs.Records.{found-ready, ready-recorded, ready-clauses}
+use Rattle.loops.specs.Records.{Known, found-ready, ready-recorded, ready-clauses}
 use Rattle.loops.proofs.is_loop_free.Statement.{statement}
 use Rattle.loops.proofs.is_loop_free.Tie as tie
 
@@ -32,12 +31,15 @@ settles-requires c κs =
     let count = c .field-at .ensures .0 in
     let atoms = c .before .before .atoms .ensures .0 ∙ r .shown .atoms in (
       ready-recorded _ _ r _ _ at count,
-      subst₂ Known (sym atoms) (sym (ready-clauses _ _ r _ _ at count))
-          (record {
-            most = r .within .atoms;
-            heads = λ d m. r .within .clausesFine d m .known;
-            bodies = λ d m l k. r .within .clausesFine d m .named l k;
-          }),
+      (
+        subst₂ Known (sym atoms) (sym (ready-clauses _ _ r _ _ at count))
+            (record {
+              most = r .within .atoms;
+              heads = λ d m. r .within .clausesFine d m .known;
+              bodies = λ d m l k. r .within .clausesFine d m .named l k;
+            }),
+        omega (arith, atoms, r .within .some),
+      ),
     )
 
 returns : tie.Need-returns

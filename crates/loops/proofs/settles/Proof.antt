@@ -1,75 +1,99 @@
 -- `loops::settles` meets its contract. Assumes nothing.
-use Prim.Native.Nat.{_-_, _<_}
-use mathlib.Core.Path.{refl}
+use Prim.Native.Nat.{ℕ, _-_, _≤_}
+use mathlib.Core.Path.{_≡_, sym, ap, _∙_, subst, fun-ext}
+use mathlib.Core.Bool.{Bool}
+use mathlib.Core.List.{List}
+use mathlib.Core.Logic.{⊎-elim}
 use native.Mathlib.Omega.{arith}
-use lib.ListN.{getD}
+use Rattle.base.specs.Bools.{decide, clash}
+use Rattle.image.specs.paper.Book.{Clause}
 use Rattle.image.specs.Shown.{clausesAt}
-use Rattle.loops.specs.Mentions.{tallied-none}
-use Rattle.loops.specs.Queue.{queued-few}
-use Rattle.loops.specs.Settling.{Known, Settling, settling-start, settling-due, settling-next, settling-end}
+use Rattle.marks.specs.declared.Marks.{Marks}
+use Rattle.marks.specs.Marked.{marked}
+use Rattle.loops.specs.Records.{Known}
+use Rattle.loops.specs.Naming.{unmarked}
+use Rattle.loops.specs.Order.{Late, late-late}
+use Rattle.loops.specs.Rounds.{Holding, holding-start, holding-next, answer-descends, answer-none, answer-same, answer-over}
 use Rattle.loops.proofs.settles.Statement.{statement}
 use Rattle.loops.proofs.settles.Tie as tie
-use Rattle.image.specs.paper.Faults.{limits}
 
 abbrev Inv-loop : tie.InvT-loop
-Inv-loop image first many atoms heads earlier latest waits₀ queue₀ joined₀ settled₀ waits queue joined settled = Settling (clausesAt image first many) atoms waits queue joined settled
+Inv-loop image first many atoms held₀ i₀ held i = (i ≤ atoms) × Holding (clausesAt image first many) (marked held₀) (marked held) i
 
 abbrev μ-loop : tie.MeasureT-loop
-μ-loop image first many atoms heads earlier latest waits₀ queue₀ joined₀ settled₀ waits queue joined settled = atoms - settled
-
-tally-all-requires : tie.Need-tally-all-requires Inv-loop μ-loop
-tally-all-requires c κs = (c .before .before .before .before .before .pre .0, tallied-none)
-
-start-requires : tie.Need-start-requires Inv-loop μ-loop
-start-requires c κs = (c .before .before .before .before .before .before .before .before .pre .1 .most, refl)
-
-loop-holds : tie.Need-loop-holds Inv-loop μ-loop
-loop-holds c = settling-start (c .before .before .before .tally-all .ensures) (c .start .ensures)
+μ-loop image first many atoms held₀ i₀ held i = atoms - i
 
 known : (c : tie.At-loop Inv-loop μ-loop)
-    → (let e = c .before .before .before .before .before .before .before .before .before .before in Known (e .args .atoms) (clausesAt (e .args .image .now) (e .args .first) (e .args .many)))
-known c = c .before .before .before .before .before .before .before .before .before .before .pre .1
+    → (let e = c .before .before .before .before .before in
+    Known (e .args .atoms) (clausesAt (e .args .image .now) (e .args .first) (e .args .many)) × (1 ≤ e .args .atoms))
+known c = c .before .before .before .before .before .pre .1
 
--- the atom whose round it is
-small : (c : tie.In-loop Inv-loop μ-loop) → getD (c .before .loop .queue) (c .before .loop .settled) 0 < limits .atoms
-small c = omega (arith, c .before .loop .inv .queued .holds .only (c .before .loop .settled) (c .loop-test .taken) .0, known (c .before) .most)
+descends-requires : tie.Need-descends-requires Inv-loop μ-loop
+descends-requires c κs = c .before .pre .0
 
-array-read-atom : tie.Need-array-read-atom Inv-loop μ-loop
-array-read-atom c = omega (arith, queued-few (c .before .loop .inv .queued), known (c .before) .most)
+returns : tie.Need-returns Inv-loop μ-loop
+returns c = answer-descends _ _ (c .before .before .before .pre .1 .0) (sym (c .before .descends .ensures) ∙ c .if1 .taken)
 
-cast-atom : tie.Need-cast-atom Inv-loop μ-loop
-cast-atom c = omega (arith, small c)
+late-requires : tie.Need-late-requires Inv-loop μ-loop
+late-requires c κs = c .before .before .before .pre .0
 
-mul-release : tie.Need-mul-release Inv-loop μ-loop
-mul-release c = omega (arith, small (c .before .before))
+loop-holds : tie.Need-loop-holds Inv-loop μ-loop
+loop-holds c =
+    let e = c .before .before .before .before in
+    let cs : List Clause = clausesAt (e .args .image .now) (e .args .first) (e .args .many) in
+    (omega arith, holding-start (subst (λ (w : ℕ → Bool). Late w cs) (sym (fun-ext (c .late .ensures))) (late-late cs unmarked unmarked)))
 
-array-read-release : tie.Need-array-read-release Inv-loop μ-loop
-array-read-release c = small (c .before .before)
+is-none-requires : tie.Need-is-none-requires Inv-loop μ-loop
+is-none-requires c κs = tt
 
-release-requires : tie.Need-release-requires Inv-loop μ-loop
-release-requires c κs =
-    let m = c .before .before .before .before in
-    (_, _, settling-due (known (m .before)) (m .before .loop .inv) (m .loop-test .taken) (m .before .before .before .before .before .tally-all .ensures))
+returns-2 : tie.Need-returns-2 Inv-loop μ-loop
+returns-2 c =
+    let m = c .before in
+    let l = m .before .before in
+    answer-none _ _ (known l .0) (l .loop .inv .1) (m .is-none .ensures .0 (c .if2 .taken))
 
-add-settled : tie.Need-add-settled Inv-loop μ-loop
-add-settled c =
-    let m = c .before .before .before .before .before in
-    omega (arith, queued-few (m .before .loop .inv .queued), known (m .before) .most, m .loop-test .taken)
+round-requires : tie.Need-round-requires Inv-loop μ-loop
+round-requires c κs = c .before .before .before .before .before .before .before .before .pre .0
+
+same-requires : tie.Need-same-requires Inv-loop μ-loop
+same-requires c κs = tt
+
+returns-3 : tie.Need-returns-3 Inv-loop μ-loop
+returns-3 c =
+    let m = c .before .before in
+    let n = m .before .before in
+    let l = n .before .before in
+    let all : m .round .result ≡ l .loop .held = c .before .same .ensures .0 (c .if3 .taken) in
+    answer-same _ _ (known l .0) (known l .1) (marked (l .loop .held)) (marked (m .round .result)) (m .round .ensures)
+    (λ q. ap (λ (r : Marks). marked r q) all)
+    (λ none. clash (n .is-none .ensures .1 none) (m .before .if2 .left))
+
+add-i : tie.Need-add-i Inv-loop μ-loop
+add-i c = omega arith
 
 loop-less : tie.Need-loop-less Inv-loop μ-loop
-loop-less c =
-    let m = c .before .before .before .before .before in
-    omega (arith, queued-few (m .before .loop .inv .queued), m .loop-test .taken)
+loop-less c = omega arith
 
 loop-again : tie.Need-loop-again Inv-loop μ-loop
 loop-again c =
-    let m = c .before .before .before .before .before in
-    let k = known (m .before) in
-    let s = m .before .loop .inv in
-    settling-next k s (m .loop-test .taken) (c .release .ensures _ _ (settling-due k s (m .loop-test .taken) (m .before .before .before .before .before .tally-all .ensures)))
+    let m = c .before .before in
+    (omega arith, holding-next (m .before .before .before .before .loop .inv .1) (marked (m .round .result)) (m .round .ensures))
 
-returns : tie.Need-returns Inv-loop μ-loop
-returns c = settling-end (known (c .before)) (c .before .loop .inv) (c .loop-test .left)
+is-none-requires-2 : tie.Need-is-none-requires-2 Inv-loop μ-loop
+is-none-requires-2 c κs = tt
+
+returns-4 : tie.Need-returns-4 Inv-loop μ-loop
+returns-4 c =
+    let l = c .before .before in
+    let e = l .before .before .before .before .before in
+    let cs : List Clause = clausesAt (e .args .image .now) (e .args .first) (e .args .many) in
+    let over : l .loop .i ≡ e .args .atoms = omega arith in
+    ⊎-elim (λ t. t ∙ answer-none _ _ (known l .0) (l .loop .inv .1) (c .is-none2 .ensures .0 t))
+    (λ t.
+    t
+    ∙ answer-over _ _ (known l .0) (known l .1) (subst (Holding cs (marked (l .before .late .result)) (marked (l .loop .held))) over (l .loop .inv .1))
+    (λ none. clash (c .is-none2 .ensures .1 none) t))
+    (decide (c .is-none2 .result))
 
 pub settles-spec : {M : Type 1} → statement M
 settles-spec =
@@ -77,15 +101,17 @@ settles-spec =
     (tie.spec
     Inv-loop
     μ-loop
-    tally-all-requires
-    start-requires
+    descends-requires
+    returns
+    late-requires
     loop-holds
-    array-read-atom
-    cast-atom
-    mul-release
-    array-read-release
-    release-requires
-    add-settled
+    is-none-requires
+    returns-2
+    round-requires
+    same-requires
+    returns-3
+    add-i
     loop-less
     loop-again
-    returns)
+    is-none-requires-2
+    returns-4)

@@ -1,4 +1,4 @@
--- `depends::mark_body` meets its contract. Assumes nothing.
+-- `loops::mark_body` meets its contract. Assumes nothing.
 use Prim.Native.Nat.{ℕ, _+_, _-_, _/_, _≤_, _<_}
 use mathlib.Core.Path.{_≡_, refl, sym, ap, _∙_, subst}
 use mathlib.Core.Bool.{Bool, _||_}
@@ -14,10 +14,10 @@ use Rattle.image.specs.paper.Decode.{litOf}
 use Rattle.image.specs.paper.Faults.{limits}
 use Rattle.image.specs.Shown.{litsAt}
 use Rattle.marks.specs.Marked.{marked}
 use Rattle.loops.specs.Records.{clauseIn, lits-next, lits-over}
-use Rattle.depends.specs.Spreading.{names, inBody, body-next, body-over}
-use Rattle.depends.proofs.mark_body.Statement.{statement}
-use Rattle.depends.proofs.mark_body.Tie as tie
+use Rattle.loops.specs.Naming.{inBody, names, body-next, body-over}
+use Rattle.loops.proofs.mark_body.Statement.{statement}
+use Rattle.loops.proofs.mark_body.Tie as tie
 
 abbrev Inv-loop : tie.InvT-loop
 Inv-loop part n all₀ at₀ all at =
