@@ -12,7 +12,7 @@ from pathlib import Path
 
 TOP = Path(__file__).resolve().parents[1]
 WORD = re.compile(r'[^\s(){}.;,@"`«»]+')
-DEFINES = re.compile(r"^ *(?:(?:abbrev|unfoldable|pub) )*(?P<name>[^\s:(){}.;,@\"]+) : (?P<type>.*)$")
+DEFINES = re.compile(r"^ *(?:(?:abbrev|unfoldable|pub) )*(?P<name>[^\s:(){}.;,@\"]+)(?: [({][^(){}]*[)}])* : (?P<type>.*)$")
 OPENS = re.compile(r"^ *(?:(?:abbrev|unfoldable|pub) )*(?:record|data|module) (?P<name>[^\s:(){}]+)")
 IMPORT = re.compile(r"^ *(?:pub |ghost )*use (?P<path>[^\s{]+?)\.?\{(?P<names>[^}]*)\}", re.M)
 GOAL = re.compile(r"^(\{[^}]*\} → )?\(?(tie|goal|given)\.")

@@ -5,7 +5,7 @@ use Rattle.std.proofs.Common.{arith, sym, subst, ◌∙◌, lt-ltb, le-ltb}
 use Rattle.std.proofs.Math.Path.{◌≡◌, ap}
 use Rattle.std.proofs.Math.Bool.{true, false}
 use Rattle.base.specs.paper.Bools.{choose}
-use Rattle.base.specs.Bools.{choose-true, choose-false}
+use Rattle.base.specs.Bools.{choose_true, choose_false}
 use Rattle.image.specs.paper.Book.{Book}
 use Rattle.image.specs.paper.Decode.{Decoded, accepted, refused, decode}
 use Rattle.image.specs.Accepted.{orderly, IsBook, book_in, book_in_lem}
@@ -115,21 +115,21 @@ module _ (image : List ℕ) (h budget space : ℕ) where
           let later : listing.Result = choose (ltb most_budget budget) (listing.turned 22) (listing.searched (search_end b 0 budget)) in
           let rest : listing.Result = choose (ltb space work_numbers) (listing.turned 21) later in
           tests (ltb space work_numbers) (ltb most_budget budget) (search_end b 0 budget) (choose (ltb h b.abducibles) (searched (sought b h budget)) (turned 23))
-          (sym (choose-false (listing.turned 20) rest (le-ltb longest 0 (omega arith))) ∙ q)
+          (sym (choose_false (listing.turned 20) rest (le-ltb longest 0 (omega arith))) ∙ q)
 
   module _ (a : Admitted' image budget 0 space) where
     on_book : result_of image h budget space ≡ choose (ltb h (book_in image).abducibles) (searched (sought (book_in image) h budget)) (turned 23)
     unfolding result_of
     on_book =
         ap (λ (d : Decoded). by_book d h budget space) a.book
-        ∙ choose-false _ _ (le-ltb space layout.end a.long)
-        ∙ choose-false _ _ (le-ltb most_budget budget a.low)
+        ∙ choose_false _ _ (le-ltb space layout.end a.long)
+        ∙ choose_false _ _ (le-ltb most_budget budget a.low)
 
     unnamed : (book_in image).abducibles ≤ h → result_of image h budget space ≡ turned 23
-    unnamed k = on_book ∙ choose-false _ _ (le-ltb h (book_in image).abducibles k)
+    unnamed k = on_book ∙ choose_false _ _ (le-ltb h (book_in image).abducibles k)
 
     named : h < (book_in image).abducibles → result_of image h budget space ≡ searched (sought (book_in image) h budget)
-    named k = on_book ∙ choose-true _ _ (lt-ltb h (book_in image).abducibles k)
+    named k = on_book ∙ choose_true _ _ (lt-ltb h (book_in image).abducibles k)
 
 module _ (image : List ℕ) (h budget : ℕ) (area : List ℕ) where
   -- refused before any search

@@ -5,7 +5,7 @@ use Rattle.std.proofs.Common.{arith, ap, eqb-true, ne_eqb}
 use mathlib.Core.List.Memᴰ
 use Rattle.std.proofs.lemmas.Bool.{eqb-false}
 use Rattle.base.specs.paper.Bools.{choose}
-use Rattle.base.specs.Bools.{choose-false}
+use Rattle.base.specs.Bools.{choose_false}
 use Rattle.base.specs.paper.Lists.{◌∈◌, sum, below}
 use Rattle.base.specs.Lists.{there}
 
@@ -27,7 +27,7 @@ length_below (suc n) = ap suc (length_below n)
 below_none : (h n : ℕ) → n ≤ h → sum (λ (p : ℕ). choose (eqb h p) 1 0) (below n) ≡ 0
 unfolding below
 below_none h zero q = refl
-below_none h (suc n) q = omega (arith, choose-false {A = ℕ} 1 0 (ne_eqb h n (omega arith)), below_none h n (omega arith))
+below_none h (suc n) q = omega (arith, choose_false {A = ℕ} 1 0 (ne_eqb h n (omega arith)), below_none h n (omega arith))
 
 pub below_once : (h n : ℕ) → sum (λ (p : ℕ). choose (eqb h p) 1 0) (below n) ≤ 1
 unfolding below

@@ -11,13 +11,13 @@ decide false = inr refl
 pub clash {ℓ} : {A : Type ℓ} {t : Bool} → t ≡ true → t ≡ false → A
 clash p q = absurd (true≢false (sym p ∙ q))
 
-pub choose-true {ℓ} : {A : Type ℓ} {t : Bool} (a b : A) → t ≡ true → choose t a b ≡ a
-choose-true {t = true} a b p = refl
-choose-true {t = false} a b p = clash p refl
+pub choose_true {ℓ} : {A : Type ℓ} {t : Bool} (a b : A) → t ≡ true → choose t a b ≡ a
+choose_true {t = true} a b p = refl
+choose_true {t = false} a b p = clash p refl
 
-pub choose-false {ℓ} : {A : Type ℓ} {t : Bool} (a b : A) → t ≡ false → choose t a b ≡ b
-choose-false {t = true} a b p = clash refl p
-choose-false {t = false} a b p = refl
+pub choose_false {ℓ} : {A : Type ℓ} {t : Bool} (a b : A) → t ≡ false → choose t a b ≡ b
+choose_false {t = true} a b p = clash refl p
+choose_false {t = false} a b p = refl
 
 pub both : (s t : Bool) → s ≡ true → t ≡ true → (s && t) ≡ true
 both true t p q = q

@@ -43,8 +43,8 @@ module _ {ℓ} {A : Type ℓ} (inside : A → A → Bool) where
     pub under : (x : A) → P x → Some (λ k. inside k x ≡ true) kept
     pub apart : Apart kept
 
-  pub least-same {κ μ} : {P : A → Type κ} {Q : A → Type μ} {kept : List A} → ((x : A) → P x ↔ Q x) → Least P kept → Least Q kept
-  least-same same l = record {
+  pub least_same {κ μ} : {P : A → Type κ} {Q : A → Type μ} {kept : List A} → ((x : A) → P x ↔ Q x) → Least P kept → Least Q kept
+  least_same same l = record {
     from = λ x m. (same x).0 (l.from x m);
     under = λ x q. l.under x ((same x).1 q);
     apart = l.apart;
@@ -84,9 +84,9 @@ module _ {ℓ} {A : Type ℓ} (inside : A → A → Bool) where
         go (inr i) (inr j) f = f i j
 
     -- inserting adds one to the family
-    pub insert-least {κ} : {P : A → Type κ} (kept : List A) (s : A) → Least P kept → Least (λ x. P x ⊎ (x ≡ s)) (insert kept s)
+    pub insert_least {κ} : {P : A → Type κ} (kept : List A) (s : A) → Least P kept → Least (λ x. P x ⊎ (x ≡ s)) (insert kept s)
     unfolding defs.insert
-    insert-least {P = P} kept s least = go (any (λ k. inside k s) kept) refl
+    insert_least {P = P} kept s least = go (any (λ k. inside k s) kept) refl
       where
         rest : List A
         rest = filter (λ k. not (inside s k)) kept
@@ -127,9 +127,9 @@ module _ {ℓ} {A : Type ℓ} (inside : A → A → Bool) where
 
     -- and so does inserting the members of a list
     pub inserted_least : {P : A → Type ℓ} (l kept : List A) → Least P kept → Least (λ x. P x ⊎ (x ∈ l)) (foldl insert kept l)
-    inserted_least {P = P} [] kept least = least-same (λ x. (λ p. inl p, λ w. ⊎_elim (λ p. p) (λ (m : x ∈ []). absurd (Memᴰ.not-nil m)) w)) least
+    inserted_least {P = P} [] kept least = least_same (λ x. (λ p. inl p, λ w. ⊎_elim (λ p. p) (λ (m : x ∈ []). absurd (Memᴰ.not-nil m)) w)) least
     inserted_least {P = P} (s ∷ l) kept least =
-        least-same (λ x. (to x, back x)) (inserted_least l (insert kept s) (insert-least kept s least))
+        least_same (λ x. (to x, back x)) (inserted_least l (insert kept s) (insert_least kept s least))
       where
         to : (x : A) → (P x ⊎ (x ≡ s)) ⊎ (x ∈ l) → P x ⊎ (x ∈ s ∷ l)
         to x (inl (inl p)) = inl p
@@ -143,7 +143,7 @@ module _ {ℓ} {A : Type ℓ} (inside : A → A → Bool) where
     pub smallest_least : (l : List A) → Least (λ x. x ∈ l) (smallest l)
     unfolding defs.smallest
     smallest_least l =
-        least-same (λ x. (λ w. ⊎_elim (λ (m : x ∈ []). absurd (Memᴰ.not-nil m)) (λ (m : x ∈ l). m) w, λ m. inr m))
+        least_same (λ x. (λ w. ⊎_elim (λ (m : x ∈ []). absurd (Memᴰ.not-nil m)) (λ (m : x ∈ l). m) w, λ m. inr m))
         (inserted_least l [] none)
       where
         none : Least (λ x. x ∈ []) []
@@ -154,13 +154,13 @@ module _ {ℓ} {A : Type ℓ} (inside : A → A → Bool) where
         }
 
     -- none is named twice
-    pub least-once {κ} : {P : A → Type κ} {kept : List A} → Least P kept → Once kept
-    least-once {kept = kept} least = apart_once kept least.apart
+    pub least_once {κ} : {P : A → Type κ} {kept : List A} → Least P kept → Once kept
+    least_once {kept = kept} least = apart_once kept least.apart
 
     module _ (antisymmetric : (a b : A) → inside a b ≡ true → inside b a ≡ true → a ≡ b) where
       -- the kept ones are exactly the smallest of the family
-      pub least-members {κ} : {P : A → Type κ} {kept : List A} → Least P kept → (x : A) → x ∈ kept ↔ LeastOf P x
-      least-members {P = P} {kept = kept} least x = (to, back)
+      pub least_members {κ} : {P : A → Type κ} {kept : List A} → Least P kept → (x : A) → x ∈ kept ↔ LeastOf P x
+      least_members {P = P} {kept = kept} least x = (to, back)
         where
           to : x ∈ kept → LeastOf P x
           to m = (least.from x m, λ y p h. below y h (least.under y p))
@@ -177,7 +177,7 @@ module _ {ℓ} {A : Type ℓ} (inside : A → A → Bool) where
 
       -- inserting the members of a list keeps exactly its smallest members, once each
       pub smallest_members : (l : List A) (x : A) → x ∈ smallest l ↔ LeastOf (λ y. y ∈ l) x
-      smallest_members l x = least-members (smallest_least l) x
+      smallest_members l x = least_members (smallest_least l) x
 
       pub smallest_once : (l : List A) → Once (smallest l)
-      smallest_once l = least-once (smallest_least l)
+      smallest_once l = least_once (smallest_least l)

@@ -27,8 +27,8 @@ module _ {ℓ} {A : Type ℓ} where
   pub ∈_split : {a : A} (s : List A) {t : List A} → a ∈ s ++ t → (a ∈ s) ⊎ (a ∈ t)
   ∈_split s m = Memᴰ.append_cases s m
 
-pub every-none {ℓ κ} : {A : Type ℓ} (P : A → Type κ) → Every P []
-every-none P a m = absurd (Memᴰ.not-nil m)
+pub every_none {ℓ κ} : {A : Type ℓ} (P : A → Type κ) → Every P []
+every_none P a m = absurd (Memᴰ.not-nil m)
 
 module _ {ℓ κ} {A : Type ℓ} {P : A → Type κ} where
   pub every_more : {a : A} {l : List A} → P a → Every P l → Every P (a ∷ l)
@@ -51,7 +51,7 @@ module _ {ℓ κ} {A : Type ℓ} {P : A → Type κ} where
 
 module _ {ℓ} {A : Type ℓ} where
   pub all_every : (t : A → Bool) (l : List A) → all t l ≡ true → Every (λ (a : A). t a ≡ true) l
-  all_every t [] p = every-none (λ (a : A). t a ≡ true)
+  all_every t [] p = every_none (λ (a : A). t a ≡ true)
   all_every t (a ∷ l) p = every_more (both_left (t a) (all t l) p) (all_every t l (both_right (t a) (all t l) p))
 
   pub every_all : (t : A → Bool) (l : List A) → Every (λ (a : A). t a ≡ true) l → all t l ≡ true

@@ -6,7 +6,7 @@ use mathlib.Core.List.Memᴰ
 use Rattle.base.specs.paper.Bools.{choose}
 use Rattle.base.specs.Bools.{clash}
 use Rattle.base.specs.paper.Lists.{◌∈◌, Every, put, filter, Pairwise}
-use Rattle.base.specs.Lists.{there, every-none, every_more, every_first, every_rest, every_both, every_left, every_right, ahead}
+use Rattle.base.specs.Lists.{there, every_none, every_more, every_first, every_rest, every_both, every_left, every_right, ahead}
 
 module _ {ℓ} {A : Type ℓ} where
   -- a member that passes stays
@@ -125,7 +125,7 @@ module _ {ℓ κ} {A : Type ℓ} (R : A → A → Type κ) where
   pairwise_right (a ∷ s) t p = pairwise_right s t p.1
 
   pub pairwise_between : (s t : List A) → Pairwise R (s ++ t) → Every (λ a. Every (R a) t) s
-  pairwise_between [] t p = every-none (λ a. Every (R a) t)
+  pairwise_between [] t p = every_none (λ a. Every (R a) t)
   pairwise_between (a ∷ s) t p = every_more (every_right s p.0) (pairwise_between s t p.1)
 
   pub pairwise_append : (s t : List A) → Pairwise R s → Pairwise R t → Every (λ a. Every (R a) t) s → Pairwise R (s ++ t)
@@ -133,4 +133,4 @@ module _ {ℓ κ} {A : Type ℓ} (R : A → A → Type κ) where
   pairwise_append (a ∷ s) t p q e = (every_both p.0 (every_first e), pairwise_append s t p.1 q (every_rest e))
 
   pub pairwise_last : (l : List A) (x : A) → Pairwise R l → Every (λ a. R a x) l → Pairwise R (l ++ x ∷ [])
-  pairwise_last l x p e = pairwise_append l (x ∷ []) p (every-none (R x), tt) (λ a m. every_more (e a m) (every-none (R a)))
+  pairwise_last l x p e = pairwise_append l (x ∷ []) p (every_none (R x), tt) (λ a m. every_more (e a m) (every_none (R a)))

@@ -4,7 +4,7 @@ use Rattle.std.specs.Prelude.{◌≡◌, refl, Bool, true, false, ◌&&◌, ◌|
 use Rattle.std.proofs.Common.{ap₂}
 use Rattle.base.specs.Bools.{clash}
 use Rattle.base.specs.paper.Lists.{Every, all, any}
-use Rattle.base.specs.Lists.{Some, here, there, every-none, every_more, every_first, every_rest, all_every, any_some}
+use Rattle.base.specs.Lists.{Some, here, there, every_none, every_more, every_first, every_rest, all_every, any_some}
 
 module _ {ℓ} {A : Type ℓ} where
   pub all_same : (s t : A → Bool) (l : List A) → Every (λ (a : A). s a ≡ t a) l → all s l ≡ all t l
@@ -29,7 +29,7 @@ module _ {ℓ} {A : Type ℓ} where
 
   -- where not any holds, each fails
   pub any_fails : (t : A → Bool) (l : List A) → any t l ≡ false → Every (λ (a : A). t a ≡ false) l
-  any_fails t [] p = every-none (λ (a : A). t a ≡ false)
+  any_fails t [] p = every_none (λ (a : A). t a ≡ false)
   any_fails t (a ∷ l) p = go (t a) refl p (any_fails t l)
     where
       go : (s : Bool) → t a ≡ s → (s || any t l) ≡ false → (any t l ≡ false → Every (λ (b : A). t b ≡ false) l) → Every (λ (b : A). t b ≡ false) (a ∷ l)

@@ -6,7 +6,7 @@ use Rattle.std.proofs.Math.Nat.{sub-zero}
 use Rattle.std.proofs.Math.Path.{refl, ap}
 use mathlib.Core.List.{List, [], ◌∷◌, ◌++◌}
 use Rattle.base.specs.paper.Bools.{choose}
-use Rattle.base.specs.Bools.{clash, both, both_right, choose-true, choose-false}
+use Rattle.base.specs.Bools.{clash, both, both_right, choose_true, choose_false}
 use Rattle.base.specs.paper.Lists.{all, any, filter, put}
 use Rattle.base.specs.paper.Members.{has}
 use Rattle.image.specs.paper.Book.{Book}
@@ -65,9 +65,9 @@ module _ {image : List ℕ} {h budget : ℕ} {area : List ℕ} (may : Seekable i
   unfolding admitting.result_of
   sought_result =
       ap (λ (d : Decoded). admitting.by_book d h budget (length area)) may.book
-      ∙ choose-false _ _ (le-ltb (length area) work_numbers may.long)
-      ∙ choose-false _ _ (le-ltb most_budget budget may.low)
-      ∙ choose-true _ _ (lt-ltb h (book_in image).abducibles may.abducible)
+      ∙ choose_false _ _ (le-ltb (length area) work_numbers may.long)
+      ∙ choose_false _ _ (le-ltb most_budget budget may.low)
+      ∙ choose_true _ _ (lt-ltb h (book_in image).abducibles may.abducible)
 
   -- what `admits` promises here
   module _ {a : Admission} {area' : List ℕ} (admits : admitting.Admits image h budget area a area') (s : Sorted) where
@@ -155,7 +155,7 @@ module _ (image : List ℕ) (h budget : ℕ) (listed : Listed) (s : Sorted) (are
             let every : all (λ (d : ℕ). has d h) l ≡ true = both_right (has hypotheses h) (all (λ (d : ℕ). has d h) l) (sym (tells.every h) ∙ v) in
             ap Whole e
             ∙ ap (λ (x : Verdict). sorting_of (noted h x s))
-            (sym (decides h l (λ i. c (tells.count ∙ i)) n (sought (book_in image) h budget) ∙ choose-true _ _ every));
+            (sym (decides h l (λ i. c (tells.count ∙ i)) n (sought (book_in image) h budget) ∙ choose_true _ _ every));
         work = refl;
       }
 
@@ -169,7 +169,7 @@ module _ (image : List ℕ) (h budget : ℕ) (listed : Listed) (s : Sorted) (are
             ∙ ap (λ (x : Verdict). sorting_of (noted h x s))
             (sym
             (decides h l (λ i. c (tells.count ∙ i)) n (sought (book_in image) h budget)
-            ∙ choose-false _ _ (not_every h listed v hypotheses l tells m) ∙ choose-true _ _ (sym (tells.some h) ∙ w)));
+            ∙ choose_false _ _ (not_every h listed v hypotheses l tells m) ∙ choose_true _ _ (sym (tells.some h) ∙ w)));
         work = refl;
       }
 
@@ -183,7 +183,7 @@ module _ (image : List ℕ) (h budget : ℕ) (listed : Listed) (s : Sorted) (are
             ∙ ap (λ (x : Verdict). sorting_of (noted h x s))
             (sym
             (decides h l (λ i. c (tells.count ∙ i)) n (sought (book_in image) h budget)
-            ∙ choose-false _ _ (not_every h listed v hypotheses l tells m) ∙ choose-false _ _ (sym (tells.some h) ∙ w)));
+            ∙ choose_false _ _ (not_every h listed v hypotheses l tells m) ∙ choose_false _ _ (sym (tells.some h) ∙ w)));
         work = by.work;
       }
 
@@ -381,11 +381,11 @@ module _ (image : List ℕ) (hypotheses budget : ℕ) (listed : Listed) (list : 
 
   pub concluded_deleted : (s : Sorted) (r : Sorting) → All image hypotheses budget listed area r area' → r ≡ Whole s → s.excluded ≡ hypotheses
       → Concluded image hypotheses budget listed list area cleaning.Deleted list area'
-  concluded_deleted s r all e i = whole s (is_whole r s e all) cleaning.Deleted (sym (choose-true _ _ (eq-eqb s.excluded hypotheses i)))
+  concluded_deleted s r all e i = whole s (is_whole r s e all) cleaning.Deleted (sym (choose_true _ _ (eq-eqb s.excluded hypotheses i)))
 
   pub concluded_held : (s : Sorted) (r : Sorting) → All image hypotheses budget listed area r area' → r ≡ Whole s → (s.excluded ≡ hypotheses → ⊥)
       → Concluded image hypotheses budget listed list area (cleaning.Held s) list area'
-  concluded_held s r all e i = whole s (is_whole r s e all) (cleaning.Held s) (sym (choose-false _ _ (ne_eqb s.excluded hypotheses i)))
+  concluded_held s r all e i = whole s (is_whole r s e all) (cleaning.Held s) (sym (choose_false _ _ (ne_eqb s.excluded hypotheses i)))
 
   pub concluded_spent : (r : Sorting) → All image hypotheses budget listed area r area' → r ≡ Spent → (list' : List ℕ) → list' ≡ take 0 list ++ zeros (length list - 0)
       → Concluded image hypotheses budget listed list area (cleaning.Refused 30) list' area'

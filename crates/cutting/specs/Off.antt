@@ -9,7 +9,7 @@ use mathlib.Core.List.{List, [], ◌∷◌, ◌++◌}
 use Rattle.std.proofs.Math.ListN.{length, drop}
 use Rattle.std.proofs.Math.Seq.{drop-append_seam}
 use Rattle.base.specs.paper.Bools.{choose}
-use Rattle.base.specs.Bools.{clash, choose-false, both}
+use Rattle.base.specs.Bools.{clash, choose_false, both}
 use Rattle.base.specs.paper.Lists.{any}
 use Rattle.base.specs.Lists.{here, there}
 use Rattle.base.specs.Tests.{any_fails}
@@ -121,7 +121,7 @@ module _ (b : ℕ) (t : List ℕ) where
 
   no_sign : begins neck (b ∷ t) ≡ false → begins arrow (b ∷ t) ≡ false → begins query (b ∷ t) ≡ false → sign signs (b ∷ t) ≡ cutting (b ∷ []) t
   unfolding sign
-  no_sign n a q = choose-false _ _ n ∙ choose-false _ _ a ∙ choose-false _ _ q
+  no_sign n a q = choose_false _ _ n ∙ choose_false _ _ a ∙ choose_false _ _ q
 
 -- the text from a place that has no run
 module _ (text : List ℕ) (at : ℕ) (h : at < length text) (none : name_at text at ≡ []) where
@@ -175,7 +175,7 @@ plain : (w r : List ℕ) → NonEmpty w → (begins bracket r ≡ true → same 
     → cut_at w r ≡ cutting w r
 unfolding cut_at opened
 plain [] r s f g = absurd s
-plain (b ∷ w) r s f g = choose-false _ _ (not_opened (begins bracket r) (same (b ∷ w) bare_abd) (same (b ∷ w) bare_naf) f g)
+plain (b ∷ w) r s f g = choose_false _ _ (not_opened (begins bracket r) (same (b ∷ w) bare_abd) (same (b ∷ w) bare_naf) f g)
 
 module _ {text : List ℕ} {at end hash : ℕ} (run : RunAt text at end hash) (more : at < end) where
   run_some : NonEmpty (name_at text at)

@@ -7,9 +7,9 @@ use Rattle.std.proofs.Math.Bool.{true, false, not}
 use Rattle.std.proofs.Math.Dec.{leb}
 use Rattle.std.proofs.lemmas.Bool.{lt-leb}
 use Rattle.base.specs.paper.Bools.{choose}
-use Rattle.base.specs.Bools.{clash, choose-false}
+use Rattle.base.specs.Bools.{clash, choose_false}
 use Rattle.base.specs.paper.Lists.{◌∈◌, Every, all, any}
-use Rattle.base.specs.Lists.{here, there, every-none, every_more, every_first, every_rest}
+use Rattle.base.specs.Lists.{here, there, every_none, every_more, every_first, every_rest}
 use Rattle.base.specs.Tests.{fails_any, any_fails}
 use Rattle.base.specs.Stores.{next_all}
 use Rattle.spelling.specs.paper.Words.{Word, within, small, in_name, same, is_name, abd, naf, close, comma, semicolon, dot, neck, arrow, query, true_word, false_word, bare_abd, bare_naf}
@@ -33,7 +33,7 @@ None w vs = Every (λ (v : Word). same w v ≡ false) vs
 
 number_none : (vs : List Word) (w : Word) → None w vs → number_of vs w ≡ length vs
 number_none [] w h = refl
-number_none (v ∷ vs) w h = choose-false _ _ (every_first h) ∙ ap suc (number_none vs w (every_rest h))
+number_none (v ∷ vs) w h = choose_false _ _ (every_first h) ∙ ap suc (number_none vs w (every_rest h))
 
 -- ---- one byte
 
@@ -66,11 +66,11 @@ module _ (b : ℕ) (out : in_name b ≡ false) where
         (every_more (long arrow (omega arith))
         (every_more (long query (omega arith))
         (every_more (long true_word (omega arith))
-        (every_more (long false_word (omega arith)) (every-none (λ (v : Word). same (b ∷ []) v ≡ false))))))))))))
+        (every_more (long false_word (omega arith)) (every_none (λ (v : Word). same (b ∷ []) v ≡ false))))))))))))
 
     pub byte_code : code_of [] (b ∷ []) ≡ other_code
     unfolding code_of
-    byte_code = choose-false _ _ byte_no_name ∙ number_none fixed_words (b ∷ []) byte_none
+    byte_code = choose_false _ _ byte_no_name ∙ number_none fixed_words (b ∷ []) byte_none
 
 -- ---- a run
 
@@ -93,7 +93,7 @@ run_none w h t f =
     (every_more (run_other w semicolon h refl)
     (every_more (run_other w dot h refl)
     (every_more (run_other w arrow h refl)
-    (every_more (run_other w query h refl) (every_more t (every_more f (every-none (λ (v : Word). same w v ≡ false))))))))))))
+    (every_more (run_other w query h refl) (every_more t (every_more f (every_none (λ (v : Word). same w v ≡ false))))))))))))
 
 code_of_run : (b : ℕ) (w : Word) → all in_name (b ∷ w) ≡ true → any (same (b ∷ w)) bare ≡ false → code_of [] (b ∷ w) ≡ run_code b (length (b ∷ w))
 unfolding code_of is_name run_code
@@ -133,7 +133,7 @@ run_coded text at end more within long n =
 -- a run is none of those that it was compared with
 pub not_bare : (w : Word) → same w true_word ≡ false → same w false_word ≡ false → same w bare_abd ≡ false → same w bare_naf ≡ false → any (same w) bare ≡ false
 not_bare w t f a n =
-    fails_any (same w) bare (every_more a (every_more n (every_more t (every_more f (every-none (λ (v : Word). same w v ≡ false))))))
+    fails_any (same w) bare (every_more a (every_more n (every_more t (every_more f (every_none (λ (v : Word). same w v ≡ false))))))
 
 -- or longer than each
 pub long_bare : (w : Word) → longest_word < length w → any (same w) bare ≡ false

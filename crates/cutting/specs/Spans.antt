@@ -5,7 +5,7 @@ use Rattle.std.proofs.Common.{arith, ◌∙◌}
 use Rattle.std.proofs.Math.Path.{sym, ap}
 use mathlib.Core.List.{List, [], ◌∷◌}
 use Rattle.std.proofs.Math.ListN.{length, get_or, drop_of_length-le}
-use Rattle.base.specs.Bools.{choose-true, choose-false}
+use Rattle.base.specs.Bools.{choose_true, choose_false}
 use Rattle.base.specs.Stores.{next_all}
 use Rattle.spelling.specs.paper.Words.{Word, blank, in_name}
 use Rattle.spelling.specs.Cut.{Cut, cutting, behind, span}
@@ -23,12 +23,12 @@ module _ (p : ℕ → Bool) (text : List ℕ) (i : ℕ) where
   -- one byte more
   span_met : i < length text → p (get_or text i 0) ≡ true → span p (drop i text) ≡ behind (get_or text i 0) (span p (drop (i + 1) text))
   unfolding span
-  span_met h e = ap (span p) (next_all text i h) ∙ choose-true _ _ e
+  span_met h e = ap (span p) (next_all text i h) ∙ choose_true _ _ e
 
   -- a byte that ends it
   span_unmet : i < length text → p (get_or text i 0) ≡ false → span p (drop i text) ≡ cutting [] (drop i text)
   unfolding span
-  span_unmet h e = ap (span p) (next_all text i h) ∙ choose-false _ _ e ∙ ap (cutting []) (sym (next_all text i h))
+  span_unmet h e = ap (span p) (next_all text i h) ∙ choose_false _ _ e ∙ ap (cutting []) (sym (next_all text i h))
 
   -- the end of the text
   span_over : length text ≤ i → span p (drop i text) ≡ cutting [] (drop i text)

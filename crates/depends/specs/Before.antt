@@ -7,7 +7,7 @@ use mathlib.Core.List.{List, [], ◌∷◌, ◌++◌}
 use native.Mathlib.Omega.{arith}
 use Rattle.std.proofs.Math.ListN.{length}
 use Rattle.base.specs.paper.Bools.{choose}
-use Rattle.base.specs.Bools.{choose-true, choose-false, either}
+use Rattle.base.specs.Bools.{choose_true, choose_false, either}
 use Rattle.base.specs.paper.Lists.{flat}
 use Rattle.image.specs.paper.Book.{Clause, Book}
 use Rattle.image.specs.paper.Loops.{reached, on_loop, before_loop}
@@ -60,7 +60,7 @@ module _ (s : List ℕ) (at n : ℕ) (t : ℕ → Bool) where
     pub before_found : t (clause_at s at).head ≡ true → at ≡ behind at (before t (clauses_at s at n))
     before_found h =
         let none : length (flat of_clause (before t (clauses_at s at n))) ≡ 0 =
-        ap (λ (cs : List Clause). length (flat of_clause cs)) (opened ∙ choose-true [] (clause_at s at ∷ before t (clauses_at s (behind_record s at) (n - 1))) h) in
+        ap (λ (cs : List Clause). length (flat of_clause cs)) (opened ∙ choose_true [] (clause_at s at ∷ before t (clauses_at s (behind_record s at) (n - 1))) h) in
         omega arith
 
     -- it does not: the place is further on
@@ -69,7 +69,7 @@ module _ (s : List ℕ) (at n : ℕ) (t : ℕ → Bool) where
     before_pass r h =
         let rest : List Clause = before t (clauses_at s (behind_record s at) (n - 1)) in
         let all : length (flat of_clause (before t (clauses_at s at n))) ≡ length (of_clause (clause_at s at) ++ flat of_clause rest) =
-        ap (λ (cs : List Clause). length (flat of_clause cs)) (opened ∙ choose-false [] (clause_at s at ∷ rest) h) in
+        ap (λ (cs : List Clause). length (flat of_clause cs)) (opened ∙ choose_false [] (clause_at s at ∷ rest) h) in
         omega (arith, record_long s at n r some, length-append (of_clause (clause_at s at)) (flat of_clause rest))
 
 -- an atom more that fails the test, among those that do

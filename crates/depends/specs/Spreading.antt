@@ -9,7 +9,7 @@ use Rattle.std.proofs.Math.Logic.{inl, inr, ⊎_elim}
 use mathlib.Core.List.Memᴰ
 use mathlib.Core.List.{List, [], ◌∷◌}
 use Rattle.base.specs.paper.Bools.{choose}
-use Rattle.base.specs.Bools.{decide, clash, choose-true, choose-false, either, either_left, either_right}
+use Rattle.base.specs.Bools.{decide, clash, choose_true, choose_false, either, either_left, either_right}
 use Rattle.base.specs.paper.Lists.{◌∈◌, Every}
 use Rattle.base.specs.Lists.{any_some, some_any, every_first, every_rest}
 use Rattle.image.specs.paper.Book.{Lit, Clause}
@@ -44,12 +44,12 @@ leading p c f (inl e) = either_left (eqb c.head p) (f c.head) (eq-eqb c.head p e
 leading p c f (inr e) = either_right (eqb c.head p) (f c.head) e
 
 pub follow_leading : (p : ℕ) (c : Clause) (f : ℕ → Bool) → Leading p f c → (q : ℕ) → follow p c f q ≡ (f q || names c q)
-follow_leading p c f h q = ap (λ (g : ℕ → Bool). g q) (choose-true (λ (r : ℕ). f r || names c r) f (leading p c f h))
+follow_leading p c f h q = ap (λ (g : ℕ → Bool). g q) (choose_true (λ (r : ℕ). f r || names c r) f (leading p c f h))
 
 pub follow_other : (p : ℕ) (c : Clause) (f : ℕ → Bool) → (c.head ≡ p → ⊥) → f c.head ≡ false → (q : ℕ) → follow p c f q ≡ f q
 follow_other p c f other unmarked q =
     ap (λ (g : ℕ → Bool). g q)
-    (choose-false (λ (r : ℕ). f r || names c r) f (ap₂ ◌||◌ (ne_eqb c.head p other) unmarked))
+    (choose_false (λ (r : ℕ). f r || names c r) f (ap₂ ◌||◌ (ne_eqb c.head p other) unmarked))
 
 follow_closed : (p : ℕ) (c : Clause) (f : ℕ → Bool) → Leading p f c → (l : Lit) → l ∈ c.body → follow p c f l.atom ≡ true
 follow_closed p c f h l m =

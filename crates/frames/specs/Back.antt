@@ -11,7 +11,7 @@ use Rattle.std.proofs.Math.ListN.{get_or}
 use Rattle.std.proofs.Math.Seq.{get_or-set_other, drop-set-lt}
 use Rattle.base.specs.Bools.{decide}
 use Rattle.base.specs.paper.Lists.{Every}
-use Rattle.base.specs.Lists.{every-none, every_more, every_first, every_rest}
+use Rattle.base.specs.Lists.{every_none, every_more, every_first, every_rest}
 use Rattle.image.specs.paper.Book.{Lit, Book}
 use Rattle.searching.specs.paper.Rules.{Task, want, Node, assumed}
 use Rattle.area.specs.Ground.{Listed, Chain, Ground, Tabled}
@@ -126,7 +126,7 @@ back_run bare k run d top x = record {
 back_free : (image : List ℕ) (b : Book) (tab : ℕ → ℕ) {work u : List ℕ} {m most : ℕ} {a : Agenda} (used : ℕ) {ts : List Task} {ls : List Lit} {lss : List (List Lit)} → m ≤ most
     → Same work u layout.trail (entry_at m) → Free image b tab work m most a ts (ls ∷ lss) → Free image b tab u m used a ts (ls ∷ [])
 back_free image b tab used h f (older q a) = absurd (omega arith)
-back_free image b tab used h f (short a k) = short (leads_same image b tab f a) (every_more (every_first k) (every-none (λ (l : List Lit). length l ≤ 1)))
+back_free image b tab used h f (short a k) = short (leads_same image b tab f a) (every_more (every_first k) (every_none (λ (l : List Lit). length l ≤ 1)))
 back_free image b tab used h f (empty e l t) = empty e l (tail_same image b tab f t)
 
 keep_free : (image : List ℕ) (b : Book) (tab : ℕ → ℕ) {work u : List ℕ} {m most : ℕ} {a : Agenda} {ts : List Task} {ls : List Lit} {lss : List (List Lit)} → m ≤ most

@@ -6,7 +6,7 @@ use Rattle.std.proofs.Math.ListN.{get_or-append}
 use Rattle.std.proofs.lemmas.List.Edits.{sets, sets-eq}
 use Rattle.std.proofs.Math.Seq.{length-sets}
 use Rattle.base.specs.paper.Lists.{Every}
-use Rattle.base.specs.Lists.{every-none, every_more, every_first, every_rest}
+use Rattle.base.specs.Lists.{every_none, every_more, every_first, every_rest}
 use Rattle.image.specs.paper.Book.{Lit, Book}
 use Rattle.searching.specs.paper.Rules.{Task, want, Node}
 use Rattle.area.specs.Ground.{Listed, Chain}
@@ -189,7 +189,7 @@ module _ {image : List ℕ} {book : Book} {work : List ℕ} {run : Run} {all : L
           built m m (by_ways taking.ts memory.sheet (ls ∷ lss) ++ memory.due) t mk
           (picking (new mk c) (free_at image book memory.tab as_pushed (short a' (every_rest k))) (every_rest fs)
           (held_same image book memory.tab (λ j p q. pushed_below work run (get_or work (run.task + 1) 0) j (omega arith) (omega (arith, memory.top))) (λ j p q. same j (omega arith) (omega arith)) hd))
-          (short a' (every_more (every_first k) (every-none (λ (l : List Lit). length l ≤ 1)))) i
+          (short a' (every_more (every_first k) (every_none (λ (l : List Lit). length l ≤ 1)))) i
       go (ls ∷ lss) m used c t hd mk (empty e l x) fs i =
           let few : m ≤ limits.atoms = trail_few t in
           let under : used ≤ m = held_used image book memory.tab hd in

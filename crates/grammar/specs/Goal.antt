@@ -5,7 +5,7 @@ use Rattle.std.proofs.Common.{arith, ◌∙◌, length-append, length-drop, eq-e
 use Rattle.std.specs.Prelude.{◌≡◌, Bool, true, false, ◌&&◌, List, [], ◌∷◌, eqb, length, drop}
 use Rattle.std.proofs.Math.Path.{refl, sym, ap}
 use Rattle.base.specs.paper.Bools.{choose}
-use Rattle.base.specs.Bools.{choose-false}
+use Rattle.base.specs.Bools.{choose_false}
 use Rattle.base.specs.paper.Lists.{flat}
 use Rattle.spelling.specs.paper.Words.{Word, same, dot, query}
 use Rattle.spelling.specs.paper.Document.{Literal, Statement, Document, of_statement, StatementFine}
@@ -98,7 +98,7 @@ module _ (names ws : List Word) where
 
   -- no goal line stands at the end of the words
   no_goal : (at : ℕ) → length codes ≤ at → goal_from codes at ≡ 0
-  no_goal at h = choose-false (at + 1) 0 (no_query codes at (λ e. omega (arith, e, behind_all codes at h)))
+  no_goal at h = choose_false (at + 1) 0 (no_query codes at (λ e. omega (arith, e, behind_all codes at h)))
 
   document_place : (n at : ℕ) → at ≤ length codes → goal_from codes (statements_end codes n at) ≡ place_from at (over (document fuel n (drop at ws)))
   unfolding statements_end document next

@@ -11,7 +11,7 @@ use Rattle.std.proofs.Math.Dec.{leb, ltb}
 use Rattle.std.proofs.Math.ListN.{length, get_or-eq_default}
 use borrow.Author.Tests.{ltb-true, ltb-false, leb-true, le-leb, lt-leb, eqb-true, eq-eqb, ne_eqb}
 use Rattle.base.specs.paper.Bools.{choose}
-use Rattle.base.specs.Bools.{choose-true, choose-false, both_left}
+use Rattle.base.specs.Bools.{choose_true, choose_false, both_left}
 use Rattle.spelling.specs.Codes.{abd_code, naf_code, close_code, comma_code, neck_code, semicolon_code, dot_code, arrow_code, query_code, true_code, false_code, other_code, first_name}
 use Rattle.grammar.specs.Places.{code_at, stands, word_end, name_end, atom_end, literal_end, separated_end, onward_end, literals_end, side_end, ways_end, conclusion_end, constraint_end, body_end, statement_end, statements_end, last_dot, ends_with_goal}
 
@@ -29,16 +29,16 @@ get_or_there (a ∷ l) (suc i) d e h = get_or_there l i d e (omega arith)
 module _ (codes : List ℕ) where
   -- where the word stands, and where it does not
   pub stood : {A : Type 0} (word at : ℕ) (a b : A) → code_at codes at ≡ word → choose (stands codes word at) a b ≡ a
-  stood word at a b e = choose-true a b (eq-eqb (code_at codes at) word e)
+  stood word at a b e = choose_true a b (eq-eqb (code_at codes at) word e)
 
   pub astray : {A : Type 0} (word at : ℕ) (a b : A) → (code_at codes at ≡ word → ⊥) → choose (stands codes word at) a b ≡ b
-  astray word at a b e = choose-false a b (ne_eqb (code_at codes at) word e)
+  astray word at a b e = choose_false a b (ne_eqb (code_at codes at) word e)
 
   pub named : {A : Type 0} (at : ℕ) (a b : A) → first_name ≤ code_at codes at → choose (leb first_name (code_at codes at)) a b ≡ a
-  named at a b h = choose-true a b (le-leb first_name (code_at codes at) h)
+  named at a b h = choose_true a b (le-leb first_name (code_at codes at) h)
 
   pub nameless : {A : Type 0} (at : ℕ) (a b : A) → code_at codes at < first_name → choose (leb first_name (code_at codes at)) a b ≡ b
-  nameless at a b h = choose-false a b (lt-leb first_name (code_at codes at) h)
+  nameless at a b h = choose_false a b (lt-leb first_name (code_at codes at) h)
 
   pub code_there : (at : ℕ) → at < length codes → get_or codes at 0 ≡ code_at codes at
   unfolding code_at

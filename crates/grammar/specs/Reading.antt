@@ -11,7 +11,7 @@ use Rattle.std.proofs.Math.ListN.{length, drop}
 use Rattle.std.proofs.lemmas.List.{length-map}
 use Rattle.base.specs.paper.Bools.{choose}
 use Rattle.base.specs.Bools.{clash}
-use Rattle.base.specs.Lists.{every-none, every_more, here}
+use Rattle.base.specs.Lists.{every_none, every_more, here}
 use Rattle.spelling.specs.paper.Words.{Word, same, comma, semicolon, dot, neck, arrow, is_name}
 use Rattle.spelling.specs.paper.Document.{Atom, Literal, Statement, clause, constraint, of_atom, AtomFine, of_side, LiteralsFine}
 use Rattle.spelling.specs.Reader.{Step, found, nothing, Walk, after, give, never, turn, next, the, named, name, atom_of, literal_of, atom, literal, separated, literals, side, ways, from_head, from_side, statement}
@@ -239,7 +239,7 @@ module _ (names ws : List Word) where
               let m : rest ≡ v ∷ drop (head + 1) ws = sym f ∙ is in (
                 a,
                 ap (side fuel) (p.0 ∙ ap (λ (us : List Word). of_atom a ++ us) m ∙ ap (λ (us : List Word). us ++ v ∷ drop (head + 1) ws) (sym (append-nil (of_atom a))))
-                    ∙ side_reads fuel (literal_of a true ∷ []) (v ∷ drop (head + 1) ws) (every_more p.1 (every-none LiteralFine)) some n,
+                    ∙ side_reads fuel (literal_of a true ∷ []) (v ∷ drop (head + 1) ws) (every_more p.1 (every_none LiteralFine)) some n,
               )
 
     fact_place : starts dot (drop head ws) ≡ true → drop (head + 1) ws ≡ rest_of (statement fuel (drop at ws))

@@ -7,7 +7,7 @@ use Rattle.std.proofs.Math.Bool.{and-false, or-false}
 use Rattle.std.proofs.lemmas.List.{length-map}
 use Rattle.base.specs.Bools.{both_left, both_right}
 use Rattle.base.specs.paper.Lists.{all, any, below, sum}
-use Rattle.base.specs.Lists.{every-none, every_both, all_every, any_append}
+use Rattle.base.specs.Lists.{every_none, every_both, all_every, any_append}
 use Rattle.base.specs.Flat.{every_map, sum_append, sum_map, sum_none}
 use Rattle.image.specs.paper.Book.{Lit, Clause, Book, body_count}
 use Rattle.image.specs.paper.Faults.{limits}
@@ -31,7 +31,7 @@ fact_fine b x e =
     record {
       known = ltb-true x b.atoms (both_right (leb b.abducibles x) (ltb x b.atoms) e);
       defined = leb-true b.abducibles x (both_left (leb b.abducibles x) (ltb x b.atoms) e);
-      named = every-none (Named b.atoms);
+      named = every_none (Named b.atoms);
     }
 
 pub length_facts : (cs : List Clause) (xs : List ℕ) → length (cs ++ map fact xs) ≡ length cs + length xs

@@ -6,7 +6,7 @@ use Rattle.std.proofs.Common.{sym, ap, ap₂, ◌∙◌, subst, append_assoc, ar
 use Rattle.std.proofs.Math.Seq.{get_or-append_seam}
 use Rattle.base.specs.paper.Bools.{choose}
 use Rattle.base.specs.paper.Lists.{Every, flat, sum}
-use Rattle.base.specs.Lists.{every-none, every_more, every_first, every_rest, every_both}
+use Rattle.base.specs.Lists.{every_none, every_more, every_first, every_rest, every_both}
 use Rattle.image.specs.paper.Book.{Lit, Clause, Constraint, Book, body_count, literal_count}
 use Rattle.image.specs.paper.Walk.{field_at, byte_values, field_values}
 use Rattle.image.specs.paper.Faults.{limits}
@@ -76,7 +76,7 @@ abbrev pub Field : ℕ → Type 0
 Field x = x < field_values
 
 lits_small : (atoms : ℕ) (ls : List Lit) → atoms ≤ limits.atoms → Every (Named atoms) ls → Every Field (of_lits ls)
-lits_small atoms [] a h = every-none Field
+lits_small atoms [] a h = every_none Field
 lits_small atoms (l ∷ ls) a h =
     let n : l.atom < atoms = every_first h in
     every_more (go l.sign) (lits_small atoms ls a (every_rest h))
@@ -90,7 +90,7 @@ counted_small atoms ls a n h = every_more (omega arith) (lits_small atoms ls a h
 
 clauses_small : (atoms abducibles : ℕ) (cs : List Clause) → atoms ≤ limits.atoms → sum body_count cs ≤ limits.bodies → Every (ClauseFine atoms abducibles) cs
     → Every Field (flat of_clause cs)
-clauses_small atoms abducibles [] a n h = every-none Field
+clauses_small atoms abducibles [] a n h = every_none Field
 clauses_small atoms abducibles (c ∷ cs) a n h =
     let f = every_first h in
     let k : c.head < atoms = f.known in
@@ -100,13 +100,13 @@ clauses_small atoms abducibles (c ∷ cs) a n h =
 
 alternatives_small : (atoms : ℕ) (ways : List (List Lit)) → atoms ≤ limits.atoms → sum length ways ≤ limits.literals → Every (AlternativeFine atoms) ways
     → Every Field (flat of_alternative ways)
-alternatives_small atoms [] a n h = every-none Field
+alternatives_small atoms [] a n h = every_none Field
 alternatives_small atoms (ls ∷ ways) a n h =
     every_both (counted_small atoms ls a (omega arith) (every_first h).named) (alternatives_small atoms ways a (omega arith) (every_rest h))
 
 constraints_small : (atoms : ℕ) (ks : List Constraint) → atoms ≤ limits.atoms → sum literal_count ks ≤ limits.literals → Every (ConstraintFine atoms) ks
     → Every Field (flat of_constraint ks)
-constraints_small atoms [] a n h = every-none Field
+constraints_small atoms [] a n h = every_none Field
 constraints_small atoms (k ∷ ks) a n h =
     let f = every_first h in
     every_both

@@ -11,9 +11,9 @@ use Rattle.std.proofs.Math.ListN.{length, length-append}
 use Rattle.std.proofs.lemmas.List.{length-map}
 use Rattle.std.proofs.lemmas.Bool.{eqb-false}
 use Rattle.base.specs.paper.Bools.{choose}
-use Rattle.base.specs.Bools.{choose-true, choose-false}
+use Rattle.base.specs.Bools.{choose_true, choose_false}
 use Rattle.base.specs.paper.Lists.{Every, flat, sum}
-use Rattle.base.specs.Lists.{every-none, every_more, every_first, every_rest}
+use Rattle.base.specs.Lists.{every_none, every_more, every_first, every_rest}
 use Rattle.image.specs.paper.Book.{Lit, Clause, Constraint, body_count, literal_count}
 use Rattle.image.specs.paper.Walk.{Step, found, fault, Walk, after, give, field, running, times, Finding}
 use Rattle.image.specs.WalkLaws.{Fielded, field_found, fielded, never}
@@ -109,7 +109,7 @@ module _ {A : Type 0} {Fine : ℕ → A → Type 0} {weight : A → ℕ} where
   ran_length (then h r) = ap suc (ran_length r)
 
   pub ran_every : {P : A → Type 0} → ((t : ℕ) (x : A) → Fine t x → P x) → {n total : ℕ} {xs : List A} → Ran Fine weight n total xs → Every P xs
-  ran_every {P} f done = every-none P
+  ran_every {P} f done = every_none P
   ran_every {P} f (then {total = t} {x = x} h r) = every_more (f t x h) (ran_every f r)
 
   pub ran_sum : (most : ℕ) → ((t : ℕ) (x : A) → Fine t x → t + weight x ≤ most) → {n total : ℕ} {xs : List A} → Ran Fine weight n total xs
@@ -381,7 +381,7 @@ module _ (image : List ℕ) (most : Limits) (atoms end : ℕ) where
   unfolding alternatives
   alternatives_finds zero total at [] next e h k t =
       let on : at ≡ next = cc in
-      (record { stands = none; is_fine = every-none (AlternativeFine atoms); fits = omega arith; ends = omega arith }, omega arith)
+      (record { stands = none; is_fine = every_none (AlternativeFine atoms); fits = omega arith; ends = omega arith }, omega arith)
   alternatives_finds zero total at (ls ∷ ways) next e h k t = let z : ◌≡◌ {A = ℕ} 0 1 = cc in absurd (omega arith)
   alternatives_finds (suc n) total at ways next e h k t = go (ltb at end) refl e (λ m. alternatives_finds n m)
     where
@@ -397,7 +397,7 @@ module _ (image : List ℕ) (most : Limits) (atoms end : ℕ) where
           let is : [] ≡ ways = cc (q) in
           let on : at ≡ next = cc (q) in
           subst (λ (xs : List (List Lit)). Alternatives total at xs × (next ≡ end)) is
-          (record { stands = none; is_fine = every-none (AlternativeFine atoms); fits = omega arith; ends = omega arith }, omega arith)
+          (record { stands = none; is_fine = every_none (AlternativeFine atoms); fits = omega arith; ends = omega arith }, omega arith)
       go true b q again =
           let f = after_found (alternative image most atoms end total at) rest ways next q in
           let g = after_found (alternatives image most atoms end n (total + length f.0) f.1) (λ ways'. give (f.0 ∷ ways')) ways next f.3 in
@@ -427,7 +427,7 @@ module _ (image : List ℕ) (most : Limits) (atoms end : ℕ) where
   alternatives_reads (suc n) total at [] r h =
       let e : end ≡ at + 2 * 0 = r.ends in
       let q : at ≡ end = omega arith in
-      choose-false _ _ (le-ltb at end (omega arith)) ∙ ap (found []) q
+      choose_false _ _ (le-ltb at end (omega arith)) ∙ ap (found []) q
   alternatives_reads (suc n) total at (ls ∷ ways) r h =
       let long : length (flat of_alternative (ls ∷ ways)) ≡ length (of_alternative ls) + length (flat of_alternative ways) = length-append (of_alternative ls) (flat of_alternative ways) in
       let e : end ≡ at + 2 * length (flat of_alternative (ls ∷ ways)) = r.ends in
@@ -451,7 +451,7 @@ module _ (image : List ℕ) (most : Limits) (atoms end : ℕ) where
         ends = omega arith;
       })
       (omega arith) in
-      choose-true _ _ (lt-ltb at end (omega arith))
+      choose_true _ _ (lt-ltb at end (omega arith))
       ∙ ap (λ (st : Step (List Lit)). after st (λ z at'. after (alternatives image most atoms end n (total + length z) at') (λ zs. give (z ∷ zs)))) e₁
       ∙ ap (λ (st : Step (List (List Lit))). after st (λ zs. give (ls ∷ zs))) e₂
 

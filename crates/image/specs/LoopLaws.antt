@@ -12,7 +12,7 @@ use borrow.Author.Tests.{eqb-true, eqb-false, eq-eqb, not-true}
 use Rattle.base.specs.paper.Bools.{choose}
 use Rattle.base.specs.Bools.{decide, clash, both, both_left, both_right}
 use Rattle.base.specs.paper.Lists.{◌∈◌, Every, any, below}
-use Rattle.base.specs.Lists.{Some, here, there, every-none, every_more, every_first, every_rest, all_every, every_all, any_some, some_any}
+use Rattle.base.specs.Lists.{Some, here, there, every_none, every_more, every_first, every_rest, all_every, every_all, any_some, some_any}
 use Rattle.image.specs.paper.Book.{Lit, Clause, Book}
 use Rattle.image.specs.Sound.{Ranks}
 use Rattle.image.specs.paper.Loops.{Depends, direct, through, pending, quiet, loop_free}
@@ -156,7 +156,7 @@ record Lower (n : ℕ) (l : List ℕ) : Type 0 where
   count : length l ≤ suc (length rest)
 
 lower : (n : ℕ) (l : List ℕ) → Distinct l → Every (λ (a : ℕ). a < suc n) l → Lower n l
-lower n [] d h = record { rest = []; distinct = none; small = every-none (λ (a : ℕ). a < n); inside = λ a m. m; count = omega arith }
+lower n [] d h = record { rest = []; distinct = none; small = every_none (λ (a : ℕ). a < n); inside = λ a m. m; count = omega arith }
 lower n (a ∷ l) (more out d) h =
     ⊎_elim (λ e. last (eqb-true a n e)) (λ e. other (eqb-false a n e) (lower n l d (every_rest h))) (decide (eqb a n))
   where
@@ -220,7 +220,7 @@ record Long (cs : List Clause) (bound n p : ℕ) : Type 0 where
 
 pending_long : (cs : List Clause) (bound : ℕ) → Bodied bound cs → (n p : ℕ) → p < bound → pending cs n p ≡ true → Long cs bound n p
 pending_long cs bound small zero p h e =
-    record { rest = []; chain = last; count = refl; small = every_more h (every-none (λ (a : ℕ). a < bound)) }
+    record { rest = []; chain = last; count = refl; small = every_more h (every_none (λ (a : ℕ). a < bound)) }
 pending_long cs bound small (suc n) p h e =
     let k = pending_from cs n p e in
     let q : ℕ = k.lit.atom in

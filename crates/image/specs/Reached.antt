@@ -11,7 +11,7 @@ use Rattle.std.proofs.Math.Dec.{eqb}
 use borrow.Author.Tests.{eqb-true, eqb-false, eq-eqb}
 use Rattle.base.specs.Bools.{decide, clash, both, both_left, both_right, either, either_left, either_right}
 use Rattle.base.specs.paper.Lists.{◌∈◌, Every, any}
-use Rattle.base.specs.Lists.{here, there, every-none, every_more, every_first, every_rest, any_some, some_any}
+use Rattle.base.specs.Lists.{here, there, every_none, every_more, every_first, every_rest, any_some, some_any}
 use Rattle.image.specs.paper.Book.{Lit, Clause, Book}
 use Rattle.image.specs.paper.Loops.{Depends, direct, through, reached, on_loop}
 use Rattle.image.specs.LoopLaws.{Distinct, none, more, distinct_few, Closed}
@@ -147,7 +147,7 @@ module _ (cs : List Clause) where
   reached_up (suc k) n p q h = subst (λ (m : ℕ). reached cs m p q ≡ true) (let e : suc (k + n) ≡ suc k + n = omega arith in e) (reached_more (k + n) p q (reached_up k n p q h))
 
   path_heads : {p q : ℕ} {l : List ℕ} (atoms : ℕ) → Every (λ (c : Clause). c.head < atoms) cs → Path p q l → Every (λ (a : ℕ). a < atoms) l
-  path_heads atoms h (one s) = every_more (subst (λ (x : ℕ). x < atoms) s.heads (h s.clause s.among)) (every-none (λ (a : ℕ). a < atoms))
+  path_heads atoms h (one s) = every_more (subst (λ (x : ℕ). x < atoms) s.heads (h s.clause s.among)) (every_none (λ (a : ℕ). a < atoms))
   path_heads atoms h (more_steps s t) = every_more (subst (λ (x : ℕ). x < atoms) s.heads (h s.clause s.among)) (path_heads atoms h t)
 
   -- as many steps as there are atoms are enough

@@ -3,19 +3,19 @@
 use Rattle.std.specs.Prelude.{ℕ, ◌+◌, ◌≤◌, ◌≡◌, refl, Bool, true, false, List, length, leb}
 use Rattle.std.proofs.Common.{sym, ap, ◌∙◌, subst, leb-true, le-leb}
 use Rattle.base.specs.paper.Bools.{choose}
-use Rattle.base.specs.Bools.{choose-true, choose-false}
+use Rattle.base.specs.Bools.{choose_true, choose_false}
 use Rattle.image.specs.paper.Walk.{Step, found, fault, Finding, fine, wrong, tested, field_at, field}
 
 module _ (s : List ℕ) (faults : ℕ → Finding) (at : ℕ) where
   -- a field that is not there is 4
   pub field_missing : leb (at + 2) (length s) ≡ false → field s faults at ≡ fault 4 at
   unfolding field
-  field_missing e = choose-false _ _ e
+  field_missing e = choose_false _ _ e
 
   -- a field that is there is tested by its value
   pub field_there : leb (at + 2) (length s) ≡ true → field s faults at ≡ tested (faults (field_at s at)) (field_at s at) at
   unfolding field
-  field_there e = choose-true _ _ e
+  field_there e = choose_true _ _ e
 
   -- a field, told from a value x that is the field's where there is one, and from what the value is found to be
   pub field_by : (x : ℕ) (w : Finding) → (leb (at + 2) (length s) ≡ true → x ≡ field_at s at) → w ≡ faults x

@@ -4,7 +4,7 @@
 use Rattle.std.specs.Prelude.{ℕ, ◌+◌, ◌-◌, ◌*◌, ◌≤◌, ◌≡◌, refl, Bool, true, false, List, ◌∷◌, ◌++◌, length, get_or, leb, eqb}
 use Rattle.std.proofs.Common.{sym, ap, ap₂, ◌∙◌, subst, subst₂, arith, length-append, leb-true, le-leb, eqb-true, eq-eqb}
 use Rattle.base.specs.paper.Bools.{choose}
-use Rattle.base.specs.Bools.{choose-true}
+use Rattle.base.specs.Bools.{choose_true}
 use Rattle.base.specs.paper.Lists.{Every, flat, sum}
 use Rattle.image.specs.paper.Book.{Lit, Clause, Constraint, Book, body_count, literal_count}
 use Rattle.image.specs.paper.Walk.{Step, found, fault, Walk, after, give, field, running, times, Finding, fine, wrong, unless}
@@ -377,7 +377,7 @@ pub found_whole : (s : List ℕ) (most : Limits) (at : ℕ) (b : Book) → Read 
 unfolding whole ends
 found_whole s most at b r =
     ap (λ (st : Step Book). after st (λ c at'. after (ends s at') (λ _. give c))) ((finds_book s most).reads at b (length s) r)
-    ∙ ap (λ (st : Step (Unit {0})). after st (λ _. give b)) (choose-true (found tt (length s)) (fault 4 (length s)) (eq-eqb (length s) (length s) refl))
+    ∙ ap (λ (st : Step (Unit {0})). after st (λ _. give b)) (choose_true (found tt (length s)) (fault 4 (length s)) (eq-eqb (length s) (length s) refl))
 
 is_accepted : Decoded → Type 0
 is_accepted (accepted b) = Unit {0}
@@ -414,4 +414,4 @@ pub written_decode : (s : List ℕ) (b : Book) → Written s b → decode s ≡ 
 unfolding decode in_order
 written_decode s b w =
     ap₂ (in_order s) (fine_front s w.front) (found_whole s limits atoms_at b (record { stands = w.stands; is_fine = w.within; behind = w.over }))
-    ∙ choose-true (accepted b) (refused 9 (loop_place b)) w.free
+    ∙ choose_true (accepted b) (refused 9 (loop_place b)) w.free

@@ -7,7 +7,7 @@ use Rattle.std.proofs.Math.Path.{ap}
 use mathlib.Core.List.Memᴰ
 use mathlib.Core.List.{List, [], ◌∷◌, ◌++◌, append-nil, append_assoc}
 use Rattle.base.specs.paper.Bools.{choose}
-use Rattle.base.specs.Bools.{clash, choose-true, choose-false}
+use Rattle.base.specs.Bools.{clash, choose_true, choose_false}
 use Rattle.base.specs.paper.Lists.{◌∈◌, Every, any}
 use Rattle.base.specs.Lists.{Some, here, there, ∈_left, ∈_right, ∈_split, any_some, some_any, every_rest, every_both}
 use Rattle.base.specs.Parts.{pairwise_last}
@@ -36,11 +36,11 @@ pub record FittedOf (left right : List ℕ) (r : ℕ) (after : List ℕ) : Type 
 module _ (behind kept : List ℕ) (s : ℕ) (l : List ℕ) where
   pub gathered_stays : any (λ k. inside k s) (kept ++ (l ++ behind)) ≡ true → gathered behind kept (s ∷ l) ≡ gathered behind kept l
   unfolding gathered
-  gathered_stays e = ap (λ (k : List ℕ). gathered behind k l) (choose-true kept (kept ++ s ∷ []) e)
+  gathered_stays e = ap (λ (k : List ℕ). gathered behind k l) (choose_true kept (kept ++ s ∷ []) e)
 
   pub gathered_joins : any (λ k. inside k s) (kept ++ (l ++ behind)) ≡ false → gathered behind kept (s ∷ l) ≡ gathered behind (kept ++ s ∷ []) l
   unfolding gathered
-  gathered_joins e = ap (λ (k : List ℕ). gathered behind k l) (choose-false kept (kept ++ s ∷ []) e)
+  gathered_joins e = ap (λ (k : List ℕ). gathered behind k l) (choose_false kept (kept ++ s ∷ []) e)
 
 -- nothing is dropped
 pub gathered_length : (behind l kept : List ℕ) → length kept ≤ length (gathered behind kept l)

@@ -9,7 +9,7 @@ use lib.Dec.{leb, ltb}
 use lib.ListN.{length}
 use borrow.Author.Tests.{lt-ltb, le-ltb}
 use Rattle.base.specs.paper.Bools.{choose}
-use Rattle.base.specs.Bools.{choose-true, choose-false}
+use Rattle.base.specs.Bools.{choose_true, choose_false}
 use Rattle.image.specs.paper.Book.{Lit, Book}
 use Rattle.image.specs.Sound.{Known}
 use Rattle.image.specs.paper.Walk.{field_at}
@@ -64,7 +64,7 @@ module _ (s : List ℕ) (accepts : IsBook s) (d abducibles : ℕ) (r : Bool) (e 
 
   pub answers_above : r ≡ true → Refused 23 ≡ judged_book b d
   unfolding judged_book
-  answers_above h = sym (choose-true (Refused 23) after_set (named ∙ h))
+  answers_above h = sym (choose_true (Refused 23) after_set (named ∙ h))
 
   module _ (h : r ≡ false) (count behind place : ℕ) (n : count ≡ field_at s goals_at) (q : behind ≡ clause_count_at s)
       (g : place ≡ first_failing (true_in (value b d)) (lits_of (part s goals_at behind))) where
@@ -79,24 +79,24 @@ module _ (s : List ℕ) (accepts : IsBook s) (d abducibles : ℕ) (r : Bool) (e 
     answers_goal k =
         ap FalseGoal false_at
         ∙ sym
-        (choose-false (Refused 23) after_set (named ∙ h)
-        ∙ choose-true (FalseGoal (first_false b d)) after_goal (lt-ltb (first_false b d) (length b.goal) (omega (arith, false_at, goals))))
+        (choose_false (Refused 23) after_set (named ∙ h)
+        ∙ choose_true (FalseGoal (first_false b d)) after_goal (lt-ltb (first_false b d) (length b.goal) (omega (arith, false_at, goals))))
 
     goal_true : count ≤ place → judged_book b d ≡ after_goal
     unfolding judged_book
     goal_true k =
-        choose-false (Refused 23) after_set (named ∙ h)
-        ∙ choose-false (FalseGoal (first_false b d)) after_goal (le-ltb (first_false b d) (length b.goal) (omega (arith, false_at, goals)))
+        choose_false (Refused 23) after_set (named ∙ h)
+        ∙ choose_false (FalseGoal (first_false b d)) after_goal (le-ltb (first_false b d) (length b.goal) (omega (arith, false_at, goals)))
 
     module _ (k : count ≤ place) (many broken : ℕ) (m : many ≡ length b.constraints) (j : broken ≡ first_broken b d) where
       pub answers_constraint : broken < many → BrokenConstraint broken ≡ judged_book b d
       answers_constraint l =
           ap BrokenConstraint j
-          ∙ sym (goal_true k ∙ choose-true (BrokenConstraint (first_broken b d)) Explains (lt-ltb (first_broken b d) (length b.constraints) (omega arith)))
+          ∙ sym (goal_true k ∙ choose_true (BrokenConstraint (first_broken b d)) Explains (lt-ltb (first_broken b d) (length b.constraints) (omega arith)))
 
       pub answers_explains : many ≤ broken → Explains ≡ judged_book b d
       answers_explains l =
-          sym (goal_true k ∙ choose-false (BrokenConstraint (first_broken b d)) Explains (le-ltb (first_broken b d) (length b.constraints) (omega arith)))
+          sym (goal_true k ∙ choose_false (BrokenConstraint (first_broken b d)) Explains (le-ltb (first_broken b d) (length b.constraints) (omega arith)))
 
 -- ---- what the reader found
 

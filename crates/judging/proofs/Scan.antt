@@ -11,7 +11,7 @@ use lib.ListN.{length, get_or, drop}
 use lib.Seq.{drop-cons, drop-length}
 use lib.Dec.{eqb}
 use borrow.Author.Tests.{lt-ltb, le-ltb, eq-eqb, ne_eqb}
-use Rattle.base.specs.Bools.{choose-true, choose-false}
+use Rattle.base.specs.Bools.{choose_true, choose_false}
 use Rattle.base.specs.paper.Lists.{◌∈◌, Every, any, filter, put}
 use Rattle.base.specs.Lists.{here, there, every_first, every_rest}
 use Rattle.base.specs.paper.Members.{has}
@@ -53,13 +53,13 @@ module _ (s : List ℕ) (accepts : IsBook s) (d p : ℕ) where
   pub value_set : p < (book_in s).abducibles → value (book_in s) d p ≡ has d p
   value_set h =
       value_model (book_in s) (orderly s (book_in s) accepts) d p
-      ∙ choose-true (has d p) (some_body (value (book_in s) d) (clauses_for (book_in s) p)) (lt-ltb p (book_in s).abducibles h)
+      ∙ choose_true (has d p) (some_body (value (book_in s) d) (clauses_for (book_in s) p)) (lt-ltb p (book_in s).abducibles h)
 
   value_clauses : (book_in s).abducibles ≤ p → value (book_in s) d p ≡ any (supports (value (book_in s) d) p) (book_in s).clauses
   unfolding clauses_for
   value_clauses h =
       value_model (book_in s) (orderly s (book_in s) accepts) d p
-      ∙ choose-false (has d p) (some_body (value (book_in s) d) (clauses_for (book_in s) p)) (le-ltb p (book_in s).abducibles h)
+      ∙ choose_false (has d p) (some_body (value (book_in s) d) (clauses_for (book_in s) p)) (le-ltb p (book_in s).abducibles h)
       ∙ any_filter (λ (c : Clause). eqb c.head p) (λ (c : Clause). all_true (value (book_in s) d) c.body) (book_in s).clauses
 
 -- the dependency rank of an atom in the image's book

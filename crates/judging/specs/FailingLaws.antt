@@ -9,9 +9,9 @@ use mathlib.Core.List.{List, [], ◌∷◌, ◌++◌}
 use native.Mathlib.Omega.{arith}
 use Rattle.std.proofs.Math.ListN.{length}
 use Rattle.base.specs.paper.Bools.{choose}
-use Rattle.base.specs.Bools.{choose-true, choose-false, decide, clash}
+use Rattle.base.specs.Bools.{choose_true, choose_false, decide, clash}
 use Rattle.base.specs.paper.Lists.{Every, all, any}
-use Rattle.base.specs.Lists.{every-none, every_more, every_first, every_rest}
+use Rattle.base.specs.Lists.{every_none, every_more, every_first, every_rest}
 use Rattle.judging.specs.paper.Failing.{first_failing, First}
 
 module _ {A : Type 0} where
@@ -22,11 +22,11 @@ module _ {A : Type 0} where
 
     pub failing_later : (a : A) (l : List A) → test a ≡ true → first_failing test (a ∷ l) ≡ suc (first_failing test l)
     unfolding first_failing
-    failing_later a l e = choose-true (suc (first_failing test l)) 0 e
+    failing_later a l e = choose_true (suc (first_failing test l)) 0 e
 
     pub failing_now : (a : A) (l : List A) → test a ≡ false → first_failing test (a ∷ l) ≡ 0
     unfolding first_failing
-    failing_now a l e = choose-false (suc (first_failing test l)) 0 e
+    failing_now a l e = choose_false (suc (first_failing test l)) 0 e
 
     pub failing_most : (l : List A) → first_failing test l ≤ length l
     unfolding first_failing
@@ -57,7 +57,7 @@ module _ {A : Type 0} where
               fails = f.fails;
             }
         go false e k ih =
-            record { before = []; this = a; behind = l; split = refl; place = refl; passed = every-none (λ (x : A). test x ≡ true); fails = e }
+            record { before = []; this = a; behind = l; split = refl; place = refl; passed = every_none (λ (x : A). test x ≡ true); fails = e }
 
     -- and only there
     pub first_failing_lem : (l : List A) (i : ℕ) → First test l i → (first_failing test l ≡ i) × (i < length l)

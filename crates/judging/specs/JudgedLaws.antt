@@ -7,7 +7,7 @@ use Rattle.std.proofs.Math.Bool.{true, false}
 use Rattle.std.proofs.Math.Dec.{leb, ltb}
 use Rattle.std.proofs.lemmas.Bool.{lt-leb}
 use Rattle.base.specs.paper.Bools.{choose}
-use Rattle.base.specs.Bools.{choose-true, choose-false, decide, both, both_left, both_right}
+use Rattle.base.specs.Bools.{choose_true, choose_false, decide, both, both_left, both_right}
 use Rattle.base.specs.paper.Lists.{all}
 use Rattle.sets.specs.SetLaws.{within_has, has_within}
 use Rattle.image.specs.paper.Book.{Lit, Constraint, Book}
@@ -77,27 +77,27 @@ module _ (book : Book) (set : ℕ) where
       let g : all_true (value book set) goals ≡ true = both_left (all_true (value book set) goals) (all is_held constraints) h.1 in
       let k : all is_held constraints ≡ true = both_right (all_true (value book set) goals) (all is_held constraints) h.1 in
       sym
-      (choose-false (Refused 23) after_set (within h.0)
-      ∙ choose-false (FalseGoal (first_false book set)) after_goal (goal_true g)
-      ∙ choose-false (BrokenConstraint (first_broken book set)) Explains (le-ltb (first_broken book set) (length constraints) (all_failing is_held constraints k)))
+      (choose_false (Refused 23) after_set (within h.0)
+      ∙ choose_false (FalseGoal (first_false book set)) after_goal (goal_true g)
+      ∙ choose_false (BrokenConstraint (first_broken book set)) Explains (le-ltb (first_broken book set) (length constraints) (all_failing is_held constraints k)))
   so_judged (FalseGoal i) h =
       let f = first_failing_lem is_true goals i h.1 in
       ap FalseGoal (sym f.0)
       ∙ sym
-      (choose-false (Refused 23) after_set (within h.0)
-      ∙ choose-true (FalseGoal (first_false book set)) after_goal (lt-ltb (first_false book set) (length goals) (omega (arith, f.0, f.1))))
+      (choose_false (Refused 23) after_set (within h.0)
+      ∙ choose_true (FalseGoal (first_false book set)) after_goal (lt-ltb (first_false book set) (length goals) (omega (arith, f.0, f.1))))
   so_judged (BrokenConstraint i) h =
       let f = first_failing_lem is_held constraints i h.2 in
       ap BrokenConstraint (sym f.0)
       ∙ sym
-      (choose-false (Refused 23) after_set (within h.0)
-      ∙ choose-false (FalseGoal (first_false book set)) after_goal (goal_true h.1)
-      ∙ choose-true (BrokenConstraint (first_broken book set)) Explains (lt-ltb (first_broken book set) (length constraints) (omega (arith, f.0, f.1))))
+      (choose_false (Refused 23) after_set (within h.0)
+      ∙ choose_false (FalseGoal (first_false book set)) after_goal (goal_true h.1)
+      ∙ choose_true (BrokenConstraint (first_broken book set)) Explains (lt-ltb (first_broken book set) (length constraints) (omega (arith, f.0, f.1))))
   so_judged (Broken n at) h = absurd h
   so_judged (Refused n) h =
       ap Refused h.0
       ∙ sym
-      (choose-true (Refused 23) after_set
+      (choose_true (Refused 23) after_set
       (⊎_elim (λ e. e)
       (λ (e : leb (2 ^ book.abducibles) set ≡ false). absurd (h.1 (within_has set book.abducibles (leb-false (2 ^ book.abducibles) set e))))
       (decide (leb (2 ^ book.abducibles) set))))

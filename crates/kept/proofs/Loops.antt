@@ -7,7 +7,7 @@ use Prim.Native.Nat.{ℕ, ◌+◌, ◌≤◌, ◌<◌}
 use native.Mathlib.Omega.{arith}
 use lib.ListN.{drop_of_length-le, length, take, drop, get_or, set, length-set, length-append, take-append-drop}
 use lib.Seq.{slice, slice_empty, length-take-le, append_snoc, take-take}
-use Rattle.base.specs.Bools.{choose-true, choose-false}
+use Rattle.base.specs.Bools.{choose_true, choose_false}
 use Rattle.base.specs.paper.Lists.{any, filter}
 use Rattle.base.specs.Lists.{ahead, ahead_length}
 use Rattle.base.specs.Scans.{next}
@@ -112,7 +112,7 @@ module _ (old : List ℕ) (n s : ℕ) (fits : n ≤ length old) where
   pub insert_none : any (λ k. inside k s) (take n old) ≡ true → Overlaid (insert (take n old) s) old n old
   unfolding Least.insert
   insert_none e =
-      let same : insert (take n old) s ≡ take n old = choose-true (take n old) (others old n s ++ s ∷ []) e in
+      let same : insert (take n old) s ≡ take n old = choose_true (take n old) (others old n s ++ s ∷ []) e in
       let size : length (take n old) ≡ n = length-take-le n old fits in
       record {
         count = sym (ap length same ∙ size);
@@ -125,7 +125,7 @@ module _ (old : List ℕ) (n s : ℕ) (fits : n ≤ length old) where
   -- none is: s joins the others
   joins : any (λ k. inside k s) (take n old) ≡ false → insert (take n old) s ≡ others old n s ++ s ∷ []
   unfolding Least.insert
-  joins e = choose-false (take n old) (others old n s ++ s ∷ []) e
+  joins e = choose_false (take n old) (others old n s ++ s ∷ []) e
 
   one_more : {left : ℕ} → any (λ k. inside k s) (take n old) ≡ false → left ≡ length (others old n s) → left + 1 ≡ length (insert (take n old) s)
   one_more e c = ap (λ (j : ℕ). j + 1) c ∙ sym (ap length (joins e) ∙ length-append (others old n s) (s ∷ []))

@@ -3,7 +3,7 @@
 use Rattle.std.specs.Prelude.{ℕ, ◌-◌, ◌≤◌, ◌<◌, ◌≡◌, refl, List, ◌++◌, length, take, drop}
 use Rattle.std.proofs.Common.{arith, sym, ap₂, subst, ◌∙◌, lt-ltb, le-ltb, take_at, length-take-le}
 use Rattle.std.proofs.Math.Path.{ap}
-use Rattle.base.specs.Bools.{choose-true, choose-false}
+use Rattle.base.specs.Bools.{choose_true, choose_false}
 use Rattle.image.specs.paper.Book.{Book}
 use Rattle.image.specs.paper.Decode.{Decoded, accepted, refused, decode}
 use Rattle.image.specs.Accepted.{orderly, IsBook, book_in, book_in_lem}
@@ -120,14 +120,14 @@ module _ (image : List ℕ) (budget room space : ℕ) where
     on_book = ap (λ (d : Decoded). by_book d room space budget) i
 
     pub early_long : longest < room → Early image budget room space (Turned 20)
-    early_long p = on_book ∙ choose-true _ _ (lt-ltb longest room p)
+    early_long p = on_book ∙ choose_true _ _ (lt-ltb longest room p)
 
     pub early_short : room ≤ longest → space < layout.end → Early image budget room space (Turned 21)
-    early_short p q = on_book ∙ choose-false _ _ (le-ltb longest room p) ∙ choose-true _ _ (lt-ltb space layout.end q)
+    early_short p q = on_book ∙ choose_false _ _ (le-ltb longest room p) ∙ choose_true _ _ (lt-ltb space layout.end q)
 
     pub early_budget : room ≤ longest → layout.end ≤ space → most_budget < budget → Early image budget room space (Turned 22)
     early_budget p q r =
-        on_book ∙ choose-false _ _ (le-ltb longest room p) ∙ choose-false _ _ (le-ltb space layout.end q) ∙ choose-true _ _ (lt-ltb most_budget budget r)
+        on_book ∙ choose_false _ _ (le-ltb longest room p) ∙ choose_false _ _ (le-ltb space layout.end q) ∙ choose_true _ _ (lt-ltb most_budget budget r)
 
   -- the search may begin
   pub may_search : (r : Asked) → Early image budget room space r → r ≡ Search → Admitted image budget room space
@@ -135,8 +135,8 @@ module _ (image : List ℕ) (budget room space : ℕ) where
 
   pub admitted_result : (a : Admitted image budget room space) → result_of image budget room space ≡ searched (search_end (book_in image) room budget)
   admitted_result a =
-      on_book a.book ∙ choose-false _ _ (le-ltb longest room a.few) ∙ choose-false _ _ (le-ltb space layout.end a.long)
-      ∙ choose-false _ _ (le-ltb most_budget budget a.low)
+      on_book a.book ∙ choose_false _ _ (le-ltb longest room a.few) ∙ choose_false _ _ (le-ltb space layout.end a.long)
+      ∙ choose_false _ _ (le-ltb most_budget budget a.low)
 
 module _ (image : List ℕ) (budget : ℕ) (sets work : List ℕ) where
   -- refused before any search: the image itself, or turned away

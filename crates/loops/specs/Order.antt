@@ -9,7 +9,7 @@ use Rattle.std.proofs.Math.Logic.{inl, inr, ⊎_elim}
 use mathlib.Core.List.Memᴰ
 use mathlib.Core.List.{List, [], ◌∷◌}
 use Rattle.base.specs.paper.Bools.{choose}
-use Rattle.base.specs.Bools.{clash, both, choose-true, either_left, either_right}
+use Rattle.base.specs.Bools.{clash, both, choose_true, either_left, either_right}
 use Rattle.base.specs.paper.Lists.{◌∈◌}
 use Rattle.image.specs.paper.Book.{Lit, Clause}
 use Rattle.image.specs.paper.Loops.{Depends, direct, through}
@@ -103,7 +103,7 @@ headed_keeps c f q h = go (bodied c)
 module _ (cs : List Clause) where
   headed_own : (c : Clause) (f : ℕ → Bool) → Looping cs c → headed c f c.head ≡ true
   headed_own c f k =
-      ap (λ (g : ℕ → Bool). g c.head) (choose-true (adding c.head f) f (bodied_in c k.lit k.within)) ∙ added c.head f
+      ap (λ (g : ℕ → Bool). g c.head) (choose_true (adding c.head f) f (bodied_in c k.lit k.within)) ∙ added c.head f
 
   pub descends_free : descends cs unmarked ≡ true → (p : ℕ) → Depends cs p p → ⊥
   unfolding descends
@@ -158,7 +158,7 @@ late_first : (c : Clause) (cs : List Clause) (named f : ℕ → Bool) (k : Lit) 
 unfolding late
 late_first c cs named f k m h =
     late_keeps cs (naming c named) (behind c (naming c named) f) c.head
-    (ap (λ (g : ℕ → Bool). g c.head) (choose-true (adding c.head f) f (both (bodied c) (naming c named c.head) (bodied_in c k m) h)) ∙ added c.head f)
+    (ap (λ (g : ℕ → Bool). g c.head) (choose_true (adding c.head f) f (both (bodied c) (naming c named c.head) (bodied_in c k m) h)) ∙ added c.head f)
 
 late_named : (cs : List Clause) (named f : ℕ → Bool) (q : ℕ) → named q ≡ true → (d : Clause) → d ∈ cs → (k : Lit) → k ∈ d.body → d.head ≡ q → late cs named f q ≡ true
 unfolding late

@@ -7,7 +7,7 @@ use Rattle.std.proofs.Common.{ap₂, ◌∙◌, subst}
 use Rattle.std.proofs.Math.Bool.{false}
 use mathlib.Core.List.{List, [], ◌∷◌}
 use Rattle.base.specs.paper.Bools.{choose}
-use Rattle.base.specs.Bools.{both, choose-true, choose-false}
+use Rattle.base.specs.Bools.{both, choose_true, choose_false}
 use Rattle.image.specs.paper.Book.{Lit, Clause}
 use Rattle.image.specs.Shown.{clause_at, behind_record, clauses_at}
 use Rattle.loops.specs.Records.{clauses_first, clauses_none}
@@ -61,13 +61,13 @@ module _ (s : List ℕ) (at n : ℕ) (some : 0 < n) where
     opened =
         ap (λ (cs : List Clause). descends cs f) (clauses_first s at n some)
         ∙ ap (λ (h : ℕ → Bool). choose (names_marked h c) false (descends rest h))
-        (choose-true (adding c.head f) f (bodied_long c long) ∙ sym (fun_ext e))
+        (choose_true (adding c.head f) f (bodied_long c long) ∙ sym (fun_ext e))
 
     pub descends_next : names_marked g c ≡ false → descends rest g ≡ descends (clauses_at s at n) f
-    descends_next h = sym (opened ∙ choose-false false (descends rest g) h)
+    descends_next h = sym (opened ∙ choose_false false (descends rest g) h)
 
     pub descends_stop : names_marked g c ≡ true → false ≡ descends (clauses_at s at n) f
-    descends_stop h = sym (opened ∙ choose-true false (descends rest g) h)
+    descends_stop h = sym (opened ∙ choose_true false (descends rest g) h)
 
   pub late_fact : (named f : ℕ → Bool) → length c.body ≡ 0 → (q : ℕ) → late rest named f q ≡ late (clauses_at s at n) named f q
   late_fact named f e q =
@@ -85,11 +85,11 @@ module _ (s : List ℕ) (at n : ℕ) (some : 0 < n) where
     pub late_head : 0 < length c.body → named' c.head ≡ true → ((q : ℕ) → g q ≡ adding c.head f q)
         → (q : ℕ) → late rest named' g q ≡ late (clauses_at s at n) named f q
     late_head long h is =
-        late_next (fun_ext is ∙ sym (choose-true (adding c.head f) f (both (bodied c) (named' c.head) (bodied_long c long) h)))
+        late_next (fun_ext is ∙ sym (choose_true (adding c.head f) f (both (bodied c) (named' c.head) (bodied_long c long) h)))
 
     pub late_other : 0 < length c.body → named' c.head ≡ false → ((q : ℕ) → g q ≡ f q)
         → (q : ℕ) → late rest named' g q ≡ late (clauses_at s at n) named f q
-    late_other long h is = late_next (fun_ext is ∙ sym (choose-false (adding c.head f) f (ap₂ ◌&&◌ (bodied_long c long) h)))
+    late_other long h is = late_next (fun_ext is ∙ sym (choose_false (adding c.head f) f (ap₂ ◌&&◌ (bodied_long c long) h)))
 
   module _ (held all left : ℕ → Bool) where
     opens : (q : ℕ) → round (clauses_at s at n) held all left q
@@ -100,16 +100,16 @@ module _ (s : List ℕ) (at n : ℕ) (some : 0 < n) where
 
     -- it names none, or its head is held, or another
     pub round_pass : names_marked all c ≡ false → (q : ℕ) → round rest held all left q ≡ round (clauses_at s at n) held all left q
-    round_pass h q = sym (opens q ∙ ap (λ (g : ℕ → Bool). g q) (choose-false _ (round rest held all left) h))
+    round_pass h q = sym (opens q ∙ ap (λ (g : ℕ → Bool). g q) (choose_false _ (round rest held all left) h))
 
     pub round_held : names_marked all c ≡ true → held c.head ≡ true → (g : ℕ → Bool) → ((q : ℕ) → g q ≡ adding c.head left q)
         → (q : ℕ) → round rest held all g q ≡ round (clauses_at s at n) held all left q
     round_held h k g e q =
         ap (λ (x : ℕ → Bool). round rest held all x q) (fun_ext e)
-        ∙ sym (opens q ∙ ap (λ (x : ℕ → Bool). x q) (choose-true _ (round rest held all left) h ∙ choose-true _ (round rest held (adding c.head all) left) k))
+        ∙ sym (opens q ∙ ap (λ (x : ℕ → Bool). x q) (choose_true _ (round rest held all left) h ∙ choose_true _ (round rest held (adding c.head all) left) k))
 
     pub round_other : names_marked all c ≡ true → held c.head ≡ false → (g : ℕ → Bool) → ((q : ℕ) → g q ≡ adding c.head all q)
         → (q : ℕ) → round rest held g left q ≡ round (clauses_at s at n) held all left q
     round_other h k g e q =
         ap (λ (x : ℕ → Bool). round rest held x left q) (fun_ext e)
-        ∙ sym (opens q ∙ ap (λ (x : ℕ → Bool). x q) (choose-true _ (round rest held all left) h ∙ choose-false (round rest held all (adding c.head left)) _ k))
+        ∙ sym (opens q ∙ ap (λ (x : ℕ → Bool). x q) (choose_true _ (round rest held all left) h ∙ choose_false (round rest held all (adding c.head left)) _ k))

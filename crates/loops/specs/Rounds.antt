@@ -9,7 +9,7 @@ use Rattle.std.proofs.Math.Logic.{inl, ⊎_elim}
 use mathlib.Core.List.Memᴰ
 use mathlib.Core.List.{List, [], ◌∷◌}
 use Rattle.base.specs.paper.Bools.{choose}
-use Rattle.base.specs.Bools.{decide, clash, choose-true, choose-false, either}
+use Rattle.base.specs.Bools.{decide, clash, choose_true, choose_false, either}
 use Rattle.base.specs.paper.Lists.{◌∈◌, Every}
 use Rattle.base.specs.Lists.{any_some, every_first, every_rest}
 use Rattle.image.specs.paper.Book.{Lit, Clause}
@@ -77,7 +77,7 @@ module _ (cs : List Clause) (held : ℕ → Bool) where
         go [] over all left a done q d h =
             let o = own cs d in
             ⊎_elim (λ m. absurd (Memᴰ.not-nil m))
-            (λ e. sym (choose-true (left q) (all q) (kept q d h)) ∙ subst (Waits all left) o.heads e) (done o.clause o.looping)
+            (λ e. sym (choose_true (left q) (all q) (kept q d h)) ∙ subst (Waits all left) o.heads e) (done o.clause o.looping)
         go (c ∷ rest) (next found behind) all left a done q d h =
             pick (λ f g i j. go rest behind f g i j q d h) (names_marked all c) refl (held c.head) refl
           where
@@ -90,7 +90,7 @@ module _ (cs : List Clause) (held : ℕ → Bool) where
                 (λ e.
                 ⊎_elim
                 (λ m. clash (kept p j.loops (found j.lit j.within o.clause m o.looping.lit o.looping.within o.heads)) e)
-                (λ k. sym (choose-false (left p) (all p) e) ∙ subst (Waits all left) o.heads k) (done o.clause o.looping)) (decide (held p)))
+                (λ k. sym (choose_false (left p) (all p) e) ∙ subst (Waits all left) o.heads k) (done o.clause o.looping)) (decide (held p)))
 
             -- the rest is left, and this head waits if its clause is one of a loop
             onward : (all' left' : ℕ → Bool) → Inside all all' → Inside left left' → (Looping cs c → Waits all' left' c.head)
@@ -109,11 +109,11 @@ module _ (cs : List Clause) (held : ℕ → Bool) where
             pick later true e true i =
                 later all (adding c.head left) a
                 (onward all (adding c.head left) (λ p k. k) (adding_keeps c.head left)
-                (λ j. choose-true (adding c.head left c.head) (all c.head) i ∙ added c.head left))
+                (λ j. choose_true (adding c.head left c.head) (all c.head) i ∙ added c.head left))
             pick later true e false i =
                 later (adding c.head all) left (λ p k. adding_keeps c.head all p (a p k))
                 (onward (adding c.head all) left (adding_keeps c.head all) (λ p k. k)
-                (λ j. choose-false (left c.head) (adding c.head all c.head) i ∙ added c.head all))
+                (λ j. choose_false (left c.head) (adding c.head all c.head) i ∙ added c.head all))
 
 -- ---- all rounds
 

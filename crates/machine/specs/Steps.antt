@@ -3,7 +3,7 @@
 -- Assumes nothing.
 use Rattle.std.specs.Prelude.{ℕ, zero, suc, ◌+◌, ◌-◌, ◌≤◌, ◌<◌, ◌≡◌, refl, List, [], ◌∷◌, ◌++◌, length, take, drop}
 use Rattle.std.proofs.Common.{arith, sym, ap, ap₂, subst, subst₂, ◌∙◌, length-take, lt-ltb, le-ltb}
-use Rattle.base.specs.Bools.{choose-true, choose-false}
+use Rattle.base.specs.Bools.{choose_true, choose_false}
 use Rattle.image.specs.paper.Book.{Lit, Book}
 use Rattle.sets.specs.paper.Kept.{insert}
 use Rattle.image.specs.paper.Decode.{lit_of}
@@ -34,18 +34,18 @@ run_short b room x later kept n = refl
 run_task : (b : Book) (room k : ℕ) (t : Task) (ts : List Task) (sheet : List Lit) (later : List Node) (kept : List ℕ) (n : ℕ) → length kept ≤ room
     → Rules.run b room (suc k) (node_of (t ∷ ts) sheet ∷ later) kept n ≡ Rules.run b room k (children b (node_of (t ∷ ts) sheet) ++ later) kept (suc n)
 unfolding Rules.run Rules.noting
-run_task b room k t ts sheet later kept n h = choose-false _ _ (le-ltb room (length kept) h)
+run_task b room k t ts sheet later kept n h = choose_false _ _ (le-ltb room (length kept) h)
 
 -- a success
 run_room : (b : Book) (room k : ℕ) (sheet : List Lit) (later : List Node) (kept : List ℕ) (n : ℕ) → length (insert kept (assumed b sheet)) ≤ room
     → Rules.run b room (suc k) (node_of [] sheet ∷ later) kept n ≡ Rules.run b room k later (insert kept (assumed b sheet)) (suc n)
 unfolding Rules.run Rules.noting after
-run_room b room k sheet later kept n h = choose-false _ _ (le-ltb room (length (insert kept (assumed b sheet))) h)
+run_room b room k sheet later kept n h = choose_false _ _ (le-ltb room (length (insert kept (assumed b sheet))) h)
 
 run_full : (b : Book) (room k : ℕ) (sheet : List Lit) (later : List Node) (kept : List ℕ) (n : ℕ) → room < length (insert kept (assumed b sheet))
     → Rules.run b room (suc k) (node_of [] sheet ∷ later) kept n ≡ no_room (suc n)
 unfolding Rules.run Rules.noting after
-run_full b room k sheet later kept n h = choose-true _ _ (lt-ltb room (length (insert kept (assumed b sheet))) h)
+run_full b room k sheet later kept n h = choose_true _ _ (lt-ltb room (length (insert kept (assumed b sheet))) h)
 
 -- ---- from a state to the next
 

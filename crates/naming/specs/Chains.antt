@@ -9,7 +9,7 @@ use Rattle.std.proofs.Math.ListN.{get_or-append, get_or-map}
 use Rattle.std.proofs.Math.Seq.{get_or-append_seam}
 use Rattle.std.proofs.lemmas.Bool.{eqb-false}
 use Rattle.base.specs.paper.Bools.{choose}
-use Rattle.base.specs.Bools.{clash, decide, choose-true, choose-false}
+use Rattle.base.specs.Bools.{clash, decide, choose_true, choose_false}
 use Rattle.base.specs.paper.Lists.{◌∈◌, Every, Once}
 use Rattle.base.specs.Lists.{here, there, some_any}
 use Rattle.base.specs.Flat.{map_∈}
@@ -165,7 +165,7 @@ module _ {text entries earlier latest : List ℕ} {table : List Atom} {at : ℕ}
   unfolding place_of
   found_place w i l e =
       ap (λ (k : ℕ). k + 1) (sym (number_place table w i c.once l e))
-      ∙ sym (choose-true (number_of (names table) w + 1) 0 (known_here table w i l e))
+      ∙ sym (choose_true (number_of (names table) w + 1) 0 (known_here table w i l e))
 
   -- the entry that a link leads to has another name, or the name
   pub passed_next : (w : Word) (link : ℕ) → 0 < link → Passed table w link → same w (name_in table (link - 1)) ≡ false → Passed table w (get_or earlier (link - 1) 0)
@@ -177,7 +177,7 @@ module _ {text entries earlier latest : List ℕ} {table : List Atom} {at : ℕ}
   pub none_found : (w : Word) → Passed table w 0 → 0 ≡ place_of table w
   unfolding place_of
   none_found w p =
-      sym (choose-false (number_of (names table) w + 1) 0 (known_none table w (λ j l. p.none j l (omega arith))))
+      sym (choose_false (number_of (names table) w + 1) 0 (known_none table w (λ j l. p.none j l (omega arith))))
 
 -- ---- one name more
 

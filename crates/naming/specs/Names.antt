@@ -5,7 +5,7 @@ use Rattle.std.proofs.Common.{arith, ap₂, ◌∙◌, subst, ⊎_elim, length-a
 use Rattle.std.proofs.Math.Path.{sym, ap, subst₃}
 use Rattle.std.proofs.Math.Bool.{not}
 use Rattle.base.specs.paper.Bools.{choose}
-use Rattle.base.specs.Bools.{clash, decide, choose-true, choose-false}
+use Rattle.base.specs.Bools.{clash, decide, choose_true, choose_false}
 use Rattle.base.specs.paper.Lists.{put, filter, Once}
 use Rattle.base.specs.Lists.{any_some}
 use Rattle.base.specs.Flat.{∈_map}
@@ -195,7 +195,7 @@ module _ {text entries earlier latest : List ℕ} {table : List Atom} {at n hash
       → NameTaken text entries' earlier' latest' table (atom_of (name_at text at) marked) (at + 1) (first_name + count) (count + 1) (marks + b) false
   unfolding enter
   met_new {entries' = entries'} {earlier' = earlier'} {latest' = latest'} {b = b} f e w =
-      met more (choose-false table more new) (ap (λ (k : ℕ). first_name + k) (d.counted ∙ sym (number_new (name_at text at) table marked new)))
+      met more (choose_false table more new) (ap (λ (k : ℕ). first_name + k) (d.counted ∙ sym (number_new (name_at text at) table marked new)))
       (record {
         chained = chained;
         counted = ap (λ (k : ℕ). k + 1) d.counted ∙ sym (length-append table (a ∷ []));
@@ -222,7 +222,7 @@ module _ {text entries earlier latest : List ℕ} {table : List Atom} {at n hash
       (not (eqb (get_or entries (place - 1) 0 % 2) b))
   unfolding enter
   met_known {b = b} f place e some =
-      met table (choose-true table (table ++ a ∷ []) old) (ap (λ (k : ℕ). first_name + k) at_number) (listed_on (at + 1) (omega arith) d)
+      met table (choose_true table (table ++ a ∷ []) old) (ap (λ (k : ℕ). first_name + k) at_number) (listed_on (at + 1) (omega arith) d)
       (ap₂ (λ (x y : ℕ). not (eqb x y)) mark f
       ∙ other_bits (get_or table (number_of (names table) w) no_atom).marked marked
       ∙ sym (differs_one w table marked d.chained.once old))

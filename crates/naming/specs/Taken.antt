@@ -8,7 +8,7 @@ use mathlib.Core.List.{List, [], ◌∷◌, ◌++◌, map, map-append, append_as
 use Rattle.std.proofs.Math.ListN.{length}
 use Rattle.std.proofs.lemmas.List.{length-replicate}
 use Rattle.base.specs.paper.Lists.{Every, filter}
-use Rattle.base.specs.Lists.{every-none, every_more, every_both}
+use Rattle.base.specs.Lists.{every_none, every_more, every_both}
 use Rattle.base.specs.Stores.{stored}
 use Rattle.spelling.specs.paper.Words.{Word, same, abd}
 use Rattle.spelling.specs.paper.Document.{Atom}
@@ -87,7 +87,7 @@ taking_none {text = text} {at = at} r b =
       counted = refl;
       whole = words_start b;
       coded = refl;
-      told = every-none (Told []);
+      told = every_none (Told []);
       listed = record { chained = chained_none at r.table r.empty; counted = refl; marked = refl };
       tabled = ap (λ (ws : List Word). table_of (scan false ws)) (words_start b);
       clashed = ap (λ (ws : List Word). clashes [] (scan false ws)) (words_start b);
@@ -111,7 +111,7 @@ module _ {text codes entries earlier latest : List ℕ} {at many count marks : �
             stored codes many code (omega (arith, t.short, t.long))
             ∙ ap₂ (λ (is : List ℕ) (i : ℕ). is ++ i ∷ []) (t.coded ∙ sym kept) d.coded
             ∙ sym (map-append (code_of (names table')) t.past (w ∷ []));
-        told = every_both told (every_more (known_new t.table w marked) (every-none (Told table')));
+        told = every_both told (every_more (known_new t.table w marked) (every_none (Told table')));
         listed = listed_on next b.ahead d.listed;
         tabled =
             t.tabled

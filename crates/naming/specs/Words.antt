@@ -3,7 +3,7 @@
 use Rattle.std.specs.Prelude.{ℕ, suc, ◌+◌, ◌-◌, ◌≤◌, ◌<◌, ◌≡◌, refl, Bool, true, false, ◌&&◌, ◌||◌, List, [], ◌∷◌, ◌++◌, length, get_or, drop, eqb}
 use Rattle.std.proofs.Common.{arith, sym, ap, ap₂, ◌∙◌, subst, ⊎_elim, append-nil, drop_of_length-le, ne_eqb}
 use Rattle.base.specs.paper.Bools.{choose}
-use Rattle.base.specs.Bools.{decide, choose-true, choose-false, either_left, either_right}
+use Rattle.base.specs.Bools.{decide, choose_true, choose_false, either_left, either_right}
 use Rattle.base.specs.paper.Lists.{Every, put}
 use Rattle.base.specs.Lists.{every_first, every_rest, any_append}
 use Rattle.base.specs.Stores.{next_all}
@@ -64,11 +64,11 @@ code_other w n = go (is_name w) n
 -- a word that is no name has one code
 code_fixed : (ns ms : List Word) (w : Word) → is_name w ≡ false → code_of ns w ≡ code_of ms w
 unfolding code_of
-code_fixed ns ms w e = choose-false (first_name + number_of ns w) _ e ∙ sym (choose-false (first_name + number_of ms w) _ e)
+code_fixed ns ms w e = choose_false (first_name + number_of ns w) _ e ∙ sym (choose_false (first_name + number_of ms w) _ e)
 
 code_named : (ns : List Word) (w : Word) → is_name w ≡ true → code_of ns w ≡ first_name + number_of ns w
 unfolding code_of
-code_named ns w e = choose-true (first_name + number_of ns w) _ e
+code_named ns w e = choose_true (first_name + number_of ns w) _ e
 
 -- the fixed words but the first
 abbrev others : List Word
@@ -87,7 +87,7 @@ code_abd ns w = ⊎_elim named fixed (decide (is_name w))
     named e = ne_eqb (code_of ns w) abd_code (λ q. omega (arith, q, code_named ns w e)) ∙ sym (name_other w abd e no_name)
 
     fixed : is_name w ≡ false → eqb (code_of ns w) abd_code ≡ same w abd
-    fixed e = ap (λ (k : ℕ). eqb k abd_code) (choose-false (first_name + number_of ns w) _ e) ∙ go (same w abd) (number_of others w)
+    fixed e = ap (λ (k : ℕ). eqb k abd_code) (choose_false (first_name + number_of ns w) _ e) ∙ go (same w abd) (number_of others w)
       where
         go : (t : Bool) (k : ℕ) → eqb (choose t 0 (suc k)) abd_code ≡ t
         go true k = refl
@@ -129,7 +129,7 @@ module _ {text : List ℕ} {at code end hash : ℕ} (c : CutOff text at code end
         w = word_at text at
 
         full : enter table (atom_of (name_at text at) marked) ≡ after table w marked
-        full = ap (λ (v : Word). enter table (atom_of v marked)) (c.named e) ∙ sym (choose-true (enter table (atom_of w marked)) table e)
+        full = ap (λ (v : Word). enter table (atom_of v marked)) (c.named e) ∙ sym (choose_true (enter table (atom_of w marked)) table e)
 
     pub word_fixed : is_name (word_at text at) ≡ false → Listed text entries earlier latest table at count marks
         → WordTaken text entries earlier latest table (word_at text at) marked code end count marks false
@@ -137,7 +137,7 @@ module _ {text : List ℕ} {at code end hash : ℕ} (c : CutOff text at code end
         record {
           coded = c.code ∙ code_fixed [] (names (after table w marked)) w e;
           listed =
-              subst (λ (t : List Atom). Listed text entries earlier latest t end count marks) (sym (choose-false (enter table (atom_of w marked)) table e))
+              subst (λ (t : List Atom). Listed text entries earlier latest t end count marks) (sym (choose_false (enter table (atom_of w marked)) table e))
               (listed_on end (omega (arith, c.ahead)) d);
           clashed = sym (ap (λ (t : Bool). t && differs table (atom_of w marked)) e);
         }
@@ -207,7 +207,7 @@ known_kept table more w e = any_append (λ (a : Atom). same w a.name) table more
 
 pub known_new : (table : List Atom) (w : Word) (marked : Bool) → Told (after table w marked) w
 unfolding enter
-known_new table w marked e = ap (λ (t : List Atom). known t w) (choose-true (enter table (atom_of w marked)) table e) ∙ go (known table w) refl
+known_new table w marked e = ap (λ (t : List Atom). known t w) (choose_true (enter table (atom_of w marked)) table e) ∙ go (known table w) refl
   where
     go : (t : Bool) → known table w ≡ t → known (choose t table (table ++ atom_of w marked ∷ [])) w ≡ true
     go true q = q

@@ -8,9 +8,9 @@ use Rattle.std.proofs.Math.Bool.{true, false}
 use Rattle.std.proofs.Math.Logic.{inl, inr}
 use mathlib.Core.List.{List, [], ◌∷◌, ◌++◌}
 use Rattle.base.specs.paper.Bools.{choose}
-use Rattle.base.specs.Bools.{decide, clash, choose-true, choose-false}
+use Rattle.base.specs.Bools.{decide, clash, choose_true, choose_false}
 use Rattle.base.specs.paper.Lists.{Every}
-use Rattle.base.specs.Lists.{every-none, every_more, every_first, every_rest}
+use Rattle.base.specs.Lists.{every_none, every_more, every_first, every_rest}
 use Rattle.image.specs.paper.Book.{Clause, Book}
 use Rattle.image.specs.paper.Loops.{Depends, loop_free, on_loop, before_loop}
 use Rattle.image.specs.LoopLaws.{Closed, depends_head, free_loopless, loopless_free}
@@ -41,12 +41,12 @@ module _ (b : Book) (closed : Closed b) where
 
   first_of : (cs : List Clause) → First cs (before_loop b cs) ⊎ Every Off cs
   unfolding before_loop
-  first_of [] = inr (every-none Off)
+  first_of [] = inr (every_none Off)
   first_of (c ∷ cs) = go (on_loop b c.head) refl (first_of cs)
     where
       go : (t : Bool) → on_loop b c.head ≡ t → First cs (before_loop b cs) ⊎ Every Off cs
           → First (c ∷ cs) (choose t [] (c ∷ before_loop b cs)) ⊎ Every Off (c ∷ cs)
-      go true e h = inl (record { clause = c; rest = cs; all = refl; loops = on c e; others = every-none Off })
+      go true e h = inl (record { clause = c; rest = cs; all = refl; loops = on c e; others = every_none Off })
       go false e (inl f) =
           inl (record { clause = f.clause; rest = f.rest; all = ap (λ l. c ∷ l) f.all; loops = f.loops; others = every_more (off c e) f.others })
       go false e (inr h) = inr (every_more (off c e) h)
@@ -68,9 +68,9 @@ module _ (b : Book) (closed : Closed b) where
 
   before_first : (before : List Clause) (c : Clause) (rest : List Clause) → Every Off before → On c → before_loop b (before ++ c ∷ rest) ≡ before
   unfolding before_loop
-  before_first [] c rest h d = choose-true [] (c ∷ before_loop b rest) ((on_loop_lem b closed c.head).1 d)
+  before_first [] c rest h d = choose_true [] (c ∷ before_loop b rest) ((on_loop_lem b closed c.head).1 d)
   before_first (a ∷ before) c rest h d =
-      choose-false [] (a ∷ before_loop b (before ++ c ∷ rest)) (⊎_elim (λ e. absurd (every_first h (on a e))) (λ e. e) (decide (on_loop b a.head)))
+      choose_false [] (a ∷ before_loop b (before ++ c ∷ rest)) (⊎_elim (λ e. absurd (every_first h (on a e))) (λ e. e) (decide (on_loop b a.head)))
       ∙ ap (λ l. a ∷ l) (before_first before c rest (every_rest h) d)
 
   pub first_before : {before : List Clause} {c : Clause} → FirstOnLoop b before c → before_loop b b.clauses ≡ before

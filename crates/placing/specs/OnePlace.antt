@@ -8,7 +8,7 @@ use mathlib.Core.List.{List}
 use native.Mathlib.Omega.{arith}
 use Rattle.std.proofs.Math.ListN.{length}
 use borrow.Author.Tests.{ltb-true, ltb-false, le-leb, lt-leb, eqb-true, eqb-false, eq-eqb, ne_eqb}
-use Rattle.base.specs.Bools.{decide, choose-false}
+use Rattle.base.specs.Bools.{decide, choose_false}
 use Rattle.image.specs.paper.Front.{atoms_at}
 use Rattle.image.specs.paper.Book.{Clause, Book}
 use Rattle.image.specs.paper.Walk.{Step, found, fault, Finding, fine, wrong, field_at}
@@ -116,7 +116,7 @@ module _ (s : List ℕ) where
   loop_refused b before c e w f =
       let shut = whole_closed s b (length s) w in
       ap₂ (in_order s) e w
-      ∙ choose-false (accepted b) (refused 9 (loop_place b)) (first_unfree b shut f)
+      ∙ choose_false (accepted b) (refused 9 (loop_place b)) (first_unfree b shut f)
       ∙ ap (λ (cs : List Clause). refused 9 (record_place b cs)) (first_before b shut f)
 
   -- An image is refused with the number and the place of which the words hold.

@@ -11,7 +11,7 @@ use Rattle.std.proofs.Math.Dec.{eqb}
 use Rattle.std.proofs.Math.ListN.{length}
 use borrow.Author.Tests.{leb-true, leb-false, le-ltb, eqb-true, eqb-false}
 use Rattle.base.specs.paper.Bools.{choose}
-use Rattle.base.specs.Bools.{choose-false}
+use Rattle.base.specs.Bools.{choose_false}
 use Rattle.base.specs.paper.Lists.{sum}
 use Rattle.image.specs.paper.Front.{atoms_at}
 use Rattle.image.specs.paper.Book.{Lit, body_count, literal_count}
@@ -139,7 +139,7 @@ module _ (s : List ℕ) where
       → Led (λ ws to. Sound s to (constraints a more (total + sum length ws))) (alternatives s limits a end n total at)
   unfolding alternatives
   alternatives_led a end more zero total at few h =
-      no_more a more total at (sound_due (choose-false (alternative_count a end more total) (constraints a more total) (le-ltb at end (omega arith))) h)
+      no_more a more total at (sound_due (choose_false (alternative_count a end more total) (constraints a more total) (le-ltb at end (omega arith))) h)
   alternatives_led a end more (suc n) total at few h =
       go (alternatives_led a end more n) (ltb at end) h
     where

@@ -11,7 +11,7 @@ use Rattle.std.proofs.Math.Seq.{take-length}
 use Rattle.base.specs.paper.Bools.{choose}
 use Rattle.base.specs.Bools.{both}
 use Rattle.base.specs.paper.Lists.{◌∈◌, Every}
-use Rattle.base.specs.Lists.{here, there, every-none, every_more, every_first, every_rest}
+use Rattle.base.specs.Lists.{here, there, every_none, every_more, every_first, every_rest}
 use Rattle.base.specs.paper.Members.{has}
 use Rattle.base.specs.paper.Least
 use Rattle.image.specs.paper.Book.{Lit, Book}
@@ -114,8 +114,8 @@ module _ (book : Book) where
 
   keeps_none : (i : ℕ) (xs : List Node) → ((j : ℕ) → j ≤ i → length (keeps book [] (take j xs)) ≤ 0) → Every NoSuccess (take i xs)
   unfolding keeps
-  keeps_none zero xs f = every-none NoSuccess
-  keeps_none (suc i) [] f = every-none NoSuccess
+  keeps_none zero xs f = every_none NoSuccess
+  keeps_none (suc i) [] f = every_none NoSuccess
   keeps_none (suc i) (x ∷ xs) f = every_more none (keeps_none i xs later)
     where
       none : NoSuccess x
@@ -254,7 +254,7 @@ module _ (book : Book) (orderly : Orderly book) (h : ℕ) (assumable : h < book.
   with_agrees : (d : ℕ) → explains book d ≡ true → has d h ≡ true → Agrees book orderly d (root_with book h)
   with_agrees d e p = record {
     able = every_more (given book orderly d h (lt-ltb h book.abducibles assumable) ∙ p) (root_agrees book orderly d e).able;
-    right = every-none (True (value book d));
+    right = every_none (True (value book d));
   }
 
   -- Where the second search is admitted, some explaining set has the hypothesis;

@@ -6,9 +6,9 @@ use native.Mathlib.Omega.{arith}
 use Rattle.std.proofs.Common.{sym, ap, subst, ◌∙◌, inl, inr, eq-eqb}
 use mathlib.Core.List.Memᴰ
 use Rattle.base.specs.paper.Bools.{choose}
-use Rattle.base.specs.Bools.{choose-true, choose-false}
+use Rattle.base.specs.Bools.{choose_true, choose_false}
 use Rattle.base.specs.paper.Lists.{◌∈◌, Every, sum, filter, put, below}
-use Rattle.base.specs.Lists.{every-none, every_more, every_first, every_rest, every_both}
+use Rattle.base.specs.Lists.{every_none, every_more, every_first, every_rest, every_both}
 use Rattle.base.specs.Flat.{map_∈, every_map, sum_append, sum_map, sum_same, sum_less, sum_add, sum_none, sum_sucs}
 use Rattle.base.specs.Below.{below_in, below_once, length_below}
 use Rattle.image.specs.paper.Book.{Lit, Clause, Constraint, Book}
@@ -119,7 +119,7 @@ join_frees b s l u (p ∷ ps) m = go (Memᴰ.cases_cons m) (join_frees b s l u p
         → (free b (l ∷ s) p + sum (free b (l ∷ s)) ps) + share ≤ free b s p + sum (free b s) ps
     go (inl e) ih =
         let new : free b (l ∷ s) p ≡ 0 = ap (λ (t : Bool). choose (t || marked s p) 0 (suc (length (clauses_for b p)))) (eq-eqb p l.atom (sym e)) in
-        let old : free b s p ≡ share = ap (free b s) (sym e) ∙ choose-false 0 share u in
+        let old : free b s p ≡ share = ap (free b s) (sym e) ∙ choose_false 0 share u in
         omega (arith, sum_less (free b (l ∷ s)) (free b s) ps (free_less b s l))
     go (inr k) ih = omega (arith, ih k, free_less b s l p)
 
@@ -127,16 +127,16 @@ known_named : (b : Book) (ls : List Lit) → Known b ls → Every (Named b) (map
 known_named b ls h = every_map (Named b) want ls h
 
 opposites_known : (b : Book) (ls : List Lit) → Known b ls → Every (Known b) (opposites ls)
-opposites_known b ls h = every_map (Known b) (λ (l : Lit). opposite l ∷ []) ls (λ l m. every_more (h l m) (every-none (λ (k : Lit). k.atom < b.atoms)))
+opposites_known b ls h = every_map (Known b) (λ (l : Lit). opposite l ∷ []) ls (λ l m. every_more (h l m) (every_none (λ (k : Lit). k.atom < b.atoms)))
 
 module _ (book : Book) where
   result_frames : {s : List Lit} {t : Task} {n : Node} → Named book t → Result book s t n → held s t + frames book n ≤ choice t + sum (free book s) (below book.atoms)
   unfolding frames held
-  result_frames {s} h (gone {l} p q) = omega (arith, choose-true {A = ℕ} 0 1 (∈_on s l q))
+  result_frames {s} h (gone {l} p q) = omega (arith, choose_true {A = ℕ} 0 1 (∈_on s l q))
   result_frames {s} h (joins {l} {ts} p q m) =
       omega (
         arith,
-        choose-false {A = ℕ} 0 1 (∉_off s l q),
+        choose_false {A = ℕ} 0 1 (∉_off s l q),
         opens_choices book l ts m,
         join_frees book s l (unmarked s l p q) (below book.atoms) (below_in book.atoms l.atom h),
       )
@@ -156,7 +156,7 @@ module _ (book : Book) (orderly : Orderly book) where
       body c i = orderly.bodies_known c (for_clause book l.atom i).0
 
       go : (a s : Bool) → ts ∈ choose a ([] ∷ []) (unfolds s (clauses_for book l.atom)) → Every (Named book) ts
-      go true s k = subst (Every (Named book)) (sym (Memᴰ.eq_of_singleton k)) (every-none (Named book))
+      go true s k = subst (Every (Named book)) (sym (Memᴰ.eq_of_singleton k)) (every_none (Named book))
       go false true k =
           let w = map_∈ (λ (c : Clause). map want c.body) (clauses_for book l.atom) k in
           subst (Every (Named book)) (sym w.2) (known_named book w.0.body (body w.0 w.1))
@@ -180,7 +180,7 @@ module _ (book : Book) (orderly : Orderly book) where
   child_named h (child r) = every_both (result_named (every_first h) r) (every_rest h)
     where
       result_named : {s : List Lit} {t : Task} {n : Node} → Named book t → Result book s t n → Every (Named book) n.agenda
-      result_named q (gone i j) = every-none (Named book)
+      result_named q (gone i j) = every_none (Named book)
       result_named q (joins {l} {ts} i j m) = opens_named l ts m
       result_named q (picks {way = way} m) = known_named book way (q way m)
 

@@ -7,7 +7,7 @@ use mathlib.Core.List.Memᴰ
 use Rattle.base.specs.paper.Bools.{choose}
 use Rattle.base.specs.Bools.{clash, both, both_left, both_right, either, either_left, either_right}
 use Rattle.base.specs.paper.Lists.{◌∈◌, Every, all, any}
-use Rattle.base.specs.Lists.{Some, here, ∈_left, ∈_right, ∈_split, every-none, every_more, every_first, every_both, every_left, every_right, all_every, every_all, any_some, some_any}
+use Rattle.base.specs.Lists.{Some, here, ∈_left, ∈_right, ∈_split, every_none, every_more, every_first, every_both, every_left, every_right, all_every, every_all, any_some, some_any}
 use Rattle.base.specs.Tests.{all_fails, any_fails, fails_all, fails_any}
 use Rattle.base.specs.Flat.{∈_map, map_∈, every_map, map_every}
 use Rattle.image.specs.paper.Book.{Lit, Clause, Constraint, Book}
@@ -41,7 +41,7 @@ module _ (P : Lit → Type 0) where
 
   -- one of the opposites is known, alone in its list
   opposites_done : (ls : List Lit) → Some (λ (l : Lit). P (opposite l)) ls → Some (Every P) (opposites ls)
-  opposites_done ls w = (opposite w.0 ∷ [], ∈_map (λ (l : Lit). opposite l ∷ []) w.1, every_more w.2 (every-none P))
+  opposites_done ls w = (opposite w.0 ∷ [], ∈_map (λ (l : Lit). opposite l ∷ []) w.1, every_more w.2 (every_none P))
 
   done_opposites : (ls : List Lit) → Some (Every P) (opposites ls) → Some (λ (l : Lit). P (opposite l)) ls
   done_opposites ls w =

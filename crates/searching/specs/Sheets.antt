@@ -7,7 +7,7 @@ use Rattle.std.proofs.Math.Nat.{zero-div}
 use Rattle.std.proofs.Common.{arith, sym, ap, subst, ◌∙◌, inl, inr, lt-ltb}
 use Rattle.std.proofs.Math.Dec.{leb-suc-suc, leb-suc-zero}
 use Rattle.base.specs.paper.Bools.{choose}
-use Rattle.base.specs.Bools.{clash, both, both_left, both_right, choose-true, choose-false, same_test}
+use Rattle.base.specs.Bools.{clash, both, both_left, both_right, choose_true, choose_false, same_test}
 use Rattle.base.specs.paper.Lists.{◌∈◌, Every, below}
 use Rattle.base.specs.Lists.{Some}
 use Rattle.base.specs.Flat.{∈_map, map_∈}
@@ -71,16 +71,16 @@ Right v s = Every (True v) s
 module _ (book : Book) (orderly : Orderly book) where
   -- what is found is what settles the atom
   pub settled : (d p : ℕ) (t : Bool) → abducible book p ≡ false → Met (True (value book d)) t (clauses_for book p) → value book d p ≡ t
-  settled d p t a m = value_model book orderly d p ∙ choose-false (has d p) (some_body (value book d) (clauses_for book p)) a ∙ met_found (value book d) t (clauses_for book p) m
+  settled d p t a m = value_model book orderly d p ∙ choose_false (has d p) (some_body (value book d) (clauses_for book p)) a ∙ met_found (value book d) t (clauses_for book p) m
 
   pub settles : (d p : ℕ) (t : Bool) → abducible book p ≡ false → value book d p ≡ t → Met (True (value book d)) t (clauses_for book p)
   settles d p t a e =
       found_met (value book d) t (clauses_for book p)
-      (sym (choose-false (has d p) (some_body (value book d) (clauses_for book p)) a) ∙ sym (value_model book orderly d p) ∙ e)
+      (sym (choose_false (has d p) (some_body (value book d) (clauses_for book p)) a) ∙ sym (value_model book orderly d p) ∙ e)
 
   -- an abducible has the value that the set gives it
   pub given : (d p : ℕ) → abducible book p ≡ true → value book d p ≡ has d p
-  given d p a = value_model book orderly d p ∙ choose-true (has d p) (some_body (value book d) (clauses_for book p)) a
+  given d p a = value_model book orderly d p ∙ choose_true (has d p) (some_body (value book d) (clauses_for book p)) a
 
   -- Every literal of an accepted sheet is true under the values of its set.
   pub accepted_right : (s : List Lit) → Accepted book s → Right (value book (assumed book s)) s

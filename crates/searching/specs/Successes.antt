@@ -8,7 +8,7 @@ use mathlib.Core.List.Memᴰ
 use Rattle.base.specs.paper.Bools.{choose}
 use Rattle.base.specs.Bools.{clash, both_left, both_right}
 use Rattle.base.specs.paper.Lists.{◌∈◌, Every, flat}
-use Rattle.base.specs.Lists.{Some, here, every-none, every_more, every_first, every_rest, every_both, every_left, every_right}
+use Rattle.base.specs.Lists.{Some, here, every_none, every_more, every_first, every_rest, every_both, every_left, every_right}
 use Rattle.base.specs.Flat.{∈_flat, flat_∈, map_every, every_map}
 use Rattle.base.specs.paper.Members.{has, Inside}
 use Rattle.image.specs.paper.Book.{Lit, Book}
@@ -104,7 +104,7 @@ module _ (book : Book) where
   success_ends : (x : Node) → Success x → Ends book x.sheet x
   success_ends x e = record {
     grows = λ l m. m;
-    done = subst (Every (Done (On x.sheet))) (sym e) (every-none (Done (On x.sheet)));
+    done = subst (Every (Done (On x.sheet))) (sym e) (every_none (Done (On x.sheet)));
     fresh = λ l m. inl m;
     clear = λ h. h;
   }
@@ -158,7 +158,7 @@ module _ (book : Book) (orderly : Orderly book) (set : ℕ) where
   opens_able l e = go (abducible book l.atom) refl
     where
       go : (r : Bool) → abducible book l.atom ≡ r → Some (Every (Done (True (value book set)))) (choose r ([] ∷ []) (unfolds l.sign (clauses_for book l.atom)))
-      go true a = ([], here, every-none (Done (True (value book set))))
+      go true a = ([], here, every_none (Done (True (value book set))))
       go false a = unfolds_done (True (value book set)) l.sign (clauses_for book l.atom) (settles book orderly set l.atom l.sign a e)
 
   -- A node that agrees is a success or has a child that agrees.
@@ -173,7 +173,7 @@ module _ (book : Book) (orderly : Orderly book) (set : ℕ) where
       wanted : (l : Lit) (rest : List Task) → True (value book set) l → Every (Done (True (value book set))) rest → (t : Bool) → on n.sheet l ≡ t
           → Some Agrees (children book (record { agenda = want l ∷ rest; sheet = n.sheet }))
       wanted l rest e more true q =
-          down (want l) rest (record { agenda = []; sheet = n.sheet }) (gone clear (on_∈ n.sheet l q)) (every-none (Done (True (value book set)))) h.right more
+          down (want l) rest (record { agenda = []; sheet = n.sheet }) (gone clear (on_∈ n.sheet l q)) (every_none (Done (True (value book set)))) h.right more
         where
           clear : opposite l ∈ n.sheet → ⊥
           clear m = never_both (value book set) l e (h.right (opposite l) m)
@@ -245,7 +245,7 @@ module _ (book : Book) (orderly : Orderly book) where
   pub root_agrees : (d : ℕ) → explains book d ≡ true → Agrees book orderly d (root book)
   root_agrees d e = record {
     able = root_done (True (value book d)) book ((fine_explains book d).1 e);
-    right = every-none (True (value book d));
+    right = every_none (True (value book d));
   }
 
 -- the members of a success's set are abducibles

@@ -9,7 +9,7 @@ use Rattle.std.proofs.Math.ListN.{length}
 use Rattle.std.proofs.Math.Dec.{leb}
 use borrow.Author.Tests.{leb-true, leb-false, le-leb, lt-leb}
 use Rattle.base.specs.paper.Bools.{choose}
-use Rattle.base.specs.Bools.{choose-true, choose-false}
+use Rattle.base.specs.Bools.{choose_true, choose_false}
 use Rattle.image.specs.paper.Decode.{Decoded, accepted, refused, decode}
 use Rattle.spelling.specs.paper.Document.{Document}
 use Rattle.spelling.specs.paper.Said.{clashing, book_of}
@@ -75,11 +75,11 @@ module _ (what : Document → List ℕ) (text : List ℕ) (room : ℕ) where
   says_ending : (d : Document) → Says text d → ending what text room ≡ ending_of what room d
   unfolding ending
   says_ending d s =
-      choose-true (ending_by what room (parse text)) (number 50) (le-leb (length text) longest_text s.0)
+      choose_true (ending_by what room (parse text)) (number 50) (le-leb (length text) longest_text s.0)
       ∙ ap (ending_by what room) ((parse_spelt text d).1 s.1)
 
   clear_ending : (d : Document) → Clear text d → ending what text room ≡ in_room room (what d) (decode (image_of d))
-  clear_ending d c = says_ending d c.says ∙ choose-false (number 51) (in_room room (what d) (decode (image_of d))) c.clear
+  clear_ending d c = says_ending d c.says ∙ choose_false (number 51) (in_room room (what d) (decode (image_of d))) c.clear
 
   pub ends_ending : (e : Ending) → Ends what text room e → e ≡ ending what text room
   ends_ending e (malformed none) = silent (ending what text room) ending_ends
@@ -90,12 +90,12 @@ module _ (what : Document → List ℕ) (text : List ℕ) (room : ℕ) where
       silent x (turned d n at c h) = absurd (none d c.says)
       silent x (short d c h k) = absurd (none d c.says)
       silent x (whole d c h k) = absurd (none d c.says)
-  ends_ending e (clashes d s c) = sym (says_ending d s ∙ choose-true (number 51) (in_room room (what d) (decode (image_of d))) c)
+  ends_ending e (clashes d s c) = sym (says_ending d s ∙ choose_true (number 51) (in_room room (what d) (decode (image_of d))) c)
   ends_ending e (turned d n at c h) = sym (clear_ending d c ∙ ap (in_room room (what d)) h)
   ends_ending e (short d c h k) =
-      sym (clear_ending d c ∙ ap (in_room room (what d)) h ∙ choose-false (bytes (what d)) (number 52) (lt-leb (length (what d)) room k))
+      sym (clear_ending d c ∙ ap (in_room room (what d)) h ∙ choose_false (bytes (what d)) (number 52) (lt-leb (length (what d)) room k))
   ends_ending e (whole d c h k) =
-      sym (clear_ending d c ∙ ap (in_room room (what d)) h ∙ choose-true (bytes (what d)) (number 52) (le-leb (length (what d)) room k))
+      sym (clear_ending d c ∙ ap (in_room room (what d)) h ∙ choose_true (bytes (what d)) (number 52) (le-leb (length (what d)) room k))
 
 module _ (what : Document → List ℕ) where
   pub ends_unique : (text : List ℕ) (room : ℕ) (e f : Ending) → Ends what text room e → Ends what text room f → e ≡ f

@@ -2,9 +2,9 @@
 -- Assumes nothing.
 use Rattle.std.specs.Prelude.{ℕ, ◌≡◌, refl, Bool, true, false, ◌&&◌, ◌||◌, not, List, [], ◌∷◌, ◌++◌, length, eqb, leb}
 use Rattle.std.proofs.Common.{sym, ap, ◌∙◌, subst, append_assoc, eqb-true}
-use Rattle.base.specs.Bools.{choose-false, clash, both_left, both_right}
+use Rattle.base.specs.Bools.{choose_false, clash, both_left, both_right}
 use Rattle.base.specs.paper.Lists.{Every, flat, all, any, ◌∈◌}
-use Rattle.base.specs.Lists.{every-none, every_more, every_first, every_rest, any_some, here, there}
+use Rattle.base.specs.Lists.{every_none, every_more, every_first, every_rest, any_some, here, there}
 use Rattle.spelling.specs.paper.Words.{Word, blanks, blank, small, in_name, same, abd, naf, close, comma, semicolon, dot, neck, arrow, query, true_word, false_word, bare_abd, bare_naf, is_name}
 use Rattle.spelling.specs.Cut.{Cut, cutting, span, begins, sign, bracket, opened, cut_at, cut}
 use Rattle.spelling.specs.paper.Document.{Atom, Literal, Statement, clause, constraint, Document, of_atom, of_literal, joined, of_literals, of_side, of_ways, of_statement, of_document, AtomFine, LiteralsFine, NonEmpty, WayFine, StatementFine, Fine}
@@ -22,14 +22,14 @@ blank_byte P ps b e = let s = any_some (eqb b) blanks e in subst P (sym (eqb-tru
 
 blank_stops : (b : ℕ) → blank b ≡ true → in_name b ≡ false
 unfolding in_name small
-blank_stops b e = blank_byte (λ c. in_name c ≡ false) (every_more refl (every_more refl (every_more refl (every_more refl (every-none (λ c. in_name c ≡ false)))))) b e
+blank_stops b e = blank_byte (λ c. in_name c ≡ false) (every_more refl (every_more refl (every_more refl (every_more refl (every_none (λ c. in_name c ≡ false)))))) b e
 
 small_solid : (b : ℕ) → small b ≡ true → not (blank b) ≡ true
 unfolding small
 small_solid b h = go (blank b) refl
   where
     go : (t : Bool) → blank b ≡ t → not t ≡ true
-    go true e = clash h (blank_byte (λ c. small c ≡ false) (every_more refl (every_more refl (every_more refl (every_more refl (every-none (λ c. small c ≡ false)))))) b e)
+    go true e = clash h (blank_byte (λ c. small c ≡ false) (every_more refl (every_more refl (every_more refl (every_more refl (every_none (λ c. small c ≡ false)))))) b e)
     go false e = refl
 
 -- a word that begins with no letter, digit or underscore
@@ -57,7 +57,7 @@ unfolding cut_at opened
 run_cut [] rest r h = absurd r.0
 run_cut (b ∷ w) rest r h =
     ap (λ (c : Cut). cut_at c.front c.rest) (span_over in_name (b ∷ w) rest r.1 h)
-    ∙ choose-false _ _ (none (begins bracket rest) (same (b ∷ w) bare_abd) (same (b ∷ w) bare_naf) r.3 r.4)
+    ∙ choose_false _ _ (none (begins bracket rest) (same (b ∷ w) bare_abd) (same (b ∷ w) bare_naf) r.3 r.4)
   where
     none : (x y z : Bool) → y ≡ false → z ≡ false → (x && (y || z)) ≡ false
     none true true z p q = clash refl p
@@ -103,14 +103,14 @@ unfolding cut_at opened sign begins span in_name small same blank
 fixed_signs =
     every_more (refl, λ _. refl) (every_more (refl, λ _. refl) (every_more (refl, λ _. refl) (every_more (refl, λ _. refl)
     (every_more (refl, λ _. refl) (every_more (refl, λ _. refl) (every_more (refl, λ _. refl) (every_more (refl, λ _. refl)
-    (every_more (refl, λ _. refl) (every-none Signs)))))))))
+    (every_more (refl, λ _. refl) (every_none Signs)))))))))
 
 -- a fixed sign before words that are apart
 signed : (v : Word) (ws : List Word) → v ∈ (close ∷ comma ∷ semicolon ∷ dot ∷ neck ∷ arrow ∷ query ∷ []) → Apart ws → Tail (v ∷ ws)
 unfolding in_name small
 signed v ws i a = (
   signs_apart v ws (every_rest (every_rest fixed_signs) v i) a,
-  every_more {P = λ (w : Word). sign_first (w ∷ ws)} refl (every_more refl (every_more refl (every_more refl (every_more refl (every_more refl (every_more refl (every-none (λ (w : Word). sign_first (w ∷ ws))))))))) v i,
+  every_more {P = λ (w : Word). sign_first (w ∷ ws)} refl (every_more refl (every_more refl (every_more refl (every_more refl (every_more refl (every_more refl (every_none (λ (w : Word). sign_first (w ∷ ws))))))))) v i,
 )
 
 true_run : Run true_word

@@ -6,7 +6,7 @@ use Rattle.std.specs.Prelude.{◌≡◌, refl, Bool, true, false, length}
 use Rattle.std.proofs.Math.Path.{ap}
 use mathlib.Core.List.{List, [], ◌∷◌, ◌++◌, append_assoc, append-nil}
 use Rattle.base.specs.paper.Lists.{Every, flat}
-use Rattle.base.specs.Lists.{every-none, every_more, every_first, every_rest}
+use Rattle.base.specs.Lists.{every_none, every_more, every_first, every_rest}
 use Rattle.spelling.specs.paper.Words.{Word, same, abd, naf, close, comma, semicolon, dot, neck, arrow, query, true_word, false_word, small, in_name, is_name}
 use Rattle.spelling.specs.paper.Document.{Atom, Literal, Statement, clause, constraint, Document, of_atom, of_literal, joined, of_literals, of_side, of_ways, of_body, of_statement, of_document, AtomFine, LiteralsFine, NonEmpty, WayFine, StatementFine, Fine}
 use Rattle.spelling.specs.WordLaws.{name_other}
@@ -167,7 +167,7 @@ statement_reads n (clause a []) rest h =
     ap (λ (z : List Word). after (side n z) behind)
     (append_assoc (of_atom a) (dot ∷ []) rest ∙ ap (λ (z : List Word). z ++ dot ∷ rest) (sym (append-nil (of_atom a))))
     ∙ ap (λ (st : Step (List Literal)). after st behind)
-    (side_reads n (literal_of a true ∷ []) (dot ∷ rest) (every_more h.0 (every-none LiteralFine)) h.3 refl)
+    (side_reads n (literal_of a true ∷ []) (dot ∷ rest) (every_more h.0 (every_none LiteralFine)) h.3 refl)
   where
     behind : List Literal → Walk Statement
     behind ls = next arrow (λ ws. after (ways n ws) (λ to ws. after (the dot ws) (λ _. give (constraint ls to)))) (from_side n ls)
@@ -175,7 +175,7 @@ statement_reads n (clause a (l ∷ ls)) rest h =
     ap (λ (z : List Word). after (side n z) behind)
     (append_assoc (of_atom a) (of_body (l ∷ ls) ++ dot ∷ []) rest ∙ ap (λ (z : List Word). z ++ body) (sym (append-nil (of_atom a))))
     ∙ ap (λ (st : Step (List Literal)). after st behind)
-    (side_reads n (literal_of a true ∷ []) body (every_more h.0 (every-none LiteralFine)) h.3 refl)
+    (side_reads n (literal_of a true ∷ []) body (every_more h.0 (every_none LiteralFine)) h.3 refl)
     ∙ ap (λ (z : List Word). after (literals n z) last) (append_assoc (of_literals (l ∷ ls)) (dot ∷ []) rest)
     ∙ ap (λ (st : Step (List Literal)). after st last) (literals_reads n (l ∷ ls) (dot ∷ rest) tt h.1 h.2 refl)
   where
@@ -243,7 +243,7 @@ joined_few s f [] = omega arith
 joined_few s f (x ∷ xs) = omega (arith, flat_few s f xs, length-append (f x) (flat (λ y. s ∷ f y) xs))
 
 pub flat_each : {A : Type 0} (g : A → List Word) (xs : List A) (m : ℕ) → length (flat g xs) ≤ m → Every (λ (x : A). length (g x) ≤ m) xs
-flat_each g [] m h = every-none (λ x. length (g x) ≤ m)
+flat_each g [] m h = every_none (λ x. length (g x) ≤ m)
 flat_each g (x ∷ xs) m h =
     every_more (omega (arith, length-append (g x) (flat g xs))) (flat_each g xs m (omega (arith, length-append (g x) (flat g xs))))
 
@@ -252,7 +252,7 @@ side_few [] = omega arith
 side_few (l ∷ ls) = joined_few comma of_literal (l ∷ ls)
 
 ways_fit : (to : List (List Literal)) (m : ℕ) → Every WayFine to → suc (length (of_ways to)) ≤ m → Every (WayFits m) to × (length to ≤ m)
-ways_fit [] m h long = (every-none (WayFits m), omega arith)
+ways_fit [] m h long = (every_none (WayFits m), omega arith)
 ways_fit (ls ∷ to) m h long =
     let f : length (of_ways (ls ∷ to)) ≡ length (of_literals ls) + length (flat (λ (k : List Literal). semicolon ∷ of_literals k) to)
     = length-append (of_literals ls) (flat (λ (k : List Literal). semicolon ∷ of_literals k) to) in

@@ -5,7 +5,7 @@ use Rattle.std.proofs.Common.{arith, sym, ap, ◌∙◌, subst, append_assoc, ap
 use Rattle.base.specs.paper.Bools.{choose}
 use Rattle.base.specs.Bools.{clash, both_left, both_right}
 use Rattle.base.specs.paper.Lists.{Every, all}
-use Rattle.base.specs.Lists.{every-none, every_more, every_first, every_rest}
+use Rattle.base.specs.Lists.{every_none, every_more, every_first, every_rest}
 use Rattle.spelling.specs.paper.Words.{Word, blank, in_name, same, neck, arrow, query, bare_abd, bare_naf}
 use Rattle.spelling.specs.Cut.{Cut, cutting, behind, span, begins, beyond, sign, bracket, opened, cut_at, cut, words_by, words_in, words}
 use Rattle.spelling.specs.paper.Document.{NonEmpty}
@@ -90,7 +90,7 @@ unfolding cut_at
 cut_whole b t = go (span in_name (b ∷ t)).front (span in_name (b ∷ t)).rest (span_whole in_name (b ∷ t))
   where
     three : Every NonEmpty (neck ∷ arrow ∷ query ∷ [])
-    three = every_more tt (every_more tt (every_more tt (every-none NonEmpty)))
+    three = every_more tt (every_more tt (every_more tt (every_none NonEmpty)))
 
     go : (w r : List ℕ) → w ++ r ≡ b ∷ t → Whole (cut_at w r) (b ∷ t)
     go [] r e = subst (λ (z : List ℕ). Whole (sign (neck ∷ arrow ∷ query ∷ []) z) (b ∷ t)) (sym e) (sign_whole (neck ∷ arrow ∷ query ∷ []) b t three)

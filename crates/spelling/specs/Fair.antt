@@ -9,7 +9,7 @@ use Rattle.std.proofs.Common.{sym, ap, ◌∙◌, leb-false, le-leb, lt-ltb, le-
 use mathlib.Core.List.{List, [], ◌∷◌, ◌++◌}
 use Rattle.std.proofs.Math.ListN.{length, length-append}
 use Rattle.base.specs.paper.Bools.{choose}
-use Rattle.base.specs.Bools.{clash, choose-true, choose-false}
+use Rattle.base.specs.Bools.{clash, choose_true, choose_false}
 use Rattle.base.specs.paper.Lists.{Every, flat, sum}
 use Rattle.base.specs.Lists.{Some, every_first, every_rest}
 use Rattle.image.specs.paper.Front.{atoms_at}
@@ -129,7 +129,7 @@ module _ {L H : Type 0} (s : List ℕ) where
     fair_ways end (suc n) total at [] f g h e fuel =
         let past : end ≤ at = omega arith in
         let on : at ≡ end = omega arith in
-        fair_to on (fair_found (choose-false _ _ (le-ltb at end past)))
+        fair_to on (fair_found (choose_false _ _ (le-ltb at end past)))
     fair_ways end zero total at (ls ∷ ways) f g h e fuel = absurd (omega arith)
     fair_ways end (suc n) total at (ls ∷ ways) f g h e fuel =
         let m : length (of_lits ls) ≡ length ls = length_lits ls in
@@ -253,4 +253,4 @@ module _ (s : List ℕ) (most : Limits) (b : Book) (t : Told b) where
   unfolding whole ends
   fair_whole h e =
       fair_after (book s most atoms_at) _ (fair_to (sym e) (fair_book atoms_at h))
-      (fair_after (ends s (length s)) _ (fair_found (choose-true (found tt (length s)) (fault 4 (length s)) (eq-eqb (length s) (length s) refl))) same)
+      (fair_after (ends s (length s)) _ (fair_found (choose_true (found tt (length s)) (fault 4 (length s)) (eq-eqb (length s) (length s) refl))) same)

@@ -5,7 +5,7 @@ use Rattle.std.proofs.Common.{arith, sym, ap, subst, length-append}
 use Rattle.std.proofs.lemmas.List.{length-map}
 use Rattle.base.specs.paper.Bools.{choose}
 use Rattle.base.specs.paper.Lists.{Every, flat, sum, put, filter}
-use Rattle.base.specs.Lists.{every-none, every_more, every_first, every_rest, every_both}
+use Rattle.base.specs.Lists.{every_none, every_more, every_first, every_rest, every_both}
 use Rattle.base.specs.Parts.{filter_length}
 use Rattle.base.specs.Flat.{flat_append}
 use Rattle.image.specs.paper.Walk.{field_values}
@@ -165,7 +165,7 @@ most_names = longest_text / 2
 
 module _ (names : List Word) (few : length names ≤ most_names) where
   lits_field : (ls : List Literal) → Every Field (fields_of (map (lit_in names) ls))
-  lits_field [] = every-none Field
+  lits_field [] = every_none Field
   lits_field (l ∷ ls) = every_more (go l.sign) (lits_field ls)
     where
       go : (t : Bool) → 2 * number_of names l.atom.name + choose t 0 1 < field_values
@@ -176,7 +176,7 @@ module _ (names : List Word) (few : length names ≤ most_names) where
   alternative_field ls h = every_more (omega (arith, h, length-map ls (lit_in names))) (lits_field ls)
 
   ways_field : (to : List (List Literal)) → sum length to < field_values → Every Field (flat of_alternative (map (map (lit_in names)) to))
-  ways_field [] h = every-none Field
+  ways_field [] h = every_none Field
   ways_field (ls ∷ to) h = every_both (alternative_field ls (omega (arith, h))) (ways_field to (omega (arith, h)))
 
   length_fields : (ls : List Literal) → length (fields_of (map (lit_in names) ls)) ≡ length ls
@@ -194,16 +194,16 @@ module _ (names : List Word) (few : length names ≤ most_names) where
       )
 
   clauses_field : (s : Statement) → length (of_statement s) + 3 ≤ longest_text → Every Field (flat of_clause (clauses_in names s))
-  clauses_field (constraint c to) h = every-none Field
+  clauses_field (constraint c to) h = every_none Field
   clauses_field (clause a body) h =
       let m : 2 * length (a ∷ atoms_in body) ≤ length (of_statement (clause a body)) = statement_long (clause a body) in
       let n : length (atoms_in body) ≡ length body = length-map body (λ (l : Literal). l.atom) in
       every_both
       (every_more (omega (arith, h, m, n, length_fields body)) (every_more (omega (arith, few, number_most names a.name)) (lits_field body)))
-      (every-none Field)
+      (every_none Field)
 
   constraints_field : (s : Statement) → StatementFine s → length (of_statement s) + 3 ≤ longest_text → Every Field (flat of_constraint (constraints_in names s))
-  constraints_field (clause a body) f h = every-none Field
+  constraints_field (clause a body) f h = every_none Field
   constraints_field (constraint c to) f h =
       let last : List Word = of_ways to ++ dot ∷ [] in
       let e₁ : length (of_side c ++ arrow ∷ last) ≡ length (of_side c) + suc (length last) = length-append (of_side c) (arrow ∷ last) in
@@ -217,10 +217,10 @@ module _ (names : List Word) (few : length names ≤ most_names) where
       every_both
       (every_more (omega (arith, h, e₁, e₂, s, o, w, k, i, length_fields c, length_ways to))
       (every_both (alternative_field c (omega (arith, h, e₁, e₂, s))) (ways_field to (omega (arith, h, e₁, e₂, w)))))
-      (every-none Field)
+      (every_none Field)
 
 nested : {A B : Type 0} (f : A → List B) (g : B → List ℕ) (xs : List A) → Every (λ x. Every Field (flat g (f x))) xs → Every Field (flat g (flat f xs))
-nested f g [] h = every-none Field
+nested f g [] h = every_none Field
 nested f g (x ∷ xs) h =
     subst (Every Field) (sym (flat_append g (f x) (flat f xs))) (every_both (every_first h) (nested f g xs (every_rest h)))
 

@@ -4,7 +4,7 @@ use Rattle.std.specs.Prelude.{ℕ, ◌+◌, ◌*◌, ◌/◌, ◌%◌, ◌<◌, 
 use Rattle.std.proofs.Common.{arith, sym, subst, length-append}
 use Rattle.base.specs.paper.Bools.{choose}
 use Rattle.base.specs.paper.Lists.{Every, flat}
-use Rattle.base.specs.Lists.{every-none, every_more, every_first, every_rest, every_left, every_right}
+use Rattle.base.specs.Lists.{every_none, every_more, every_first, every_rest, every_left, every_right}
 use Rattle.image.specs.paper.Book.{Book}
 use Rattle.image.specs.paper.Walk.{Step, fine, field_at, field_values}
 use Rattle.image.specs.paper.Front.{version, atoms_at}
@@ -30,25 +30,25 @@ module _ (names : List Word) where
   Known a = number_of names a.name < length names
 
   lits_named : (ls : List Literal) → Every Known (atoms_in ls) → Every (Named (length names)) (map (lit_in names) ls)
-  lits_named [] h = every-none (Named (length names))
+  lits_named [] h = every_none (Named (length names))
   lits_named (l ∷ ls) h = every_more (every_first h) (lits_named ls (every_rest h))
 
   ways_named : (to : List (List Literal)) → Every WayFine to → Every Known (flat atoms_in to) → Every (AlternativeFine (length names)) (map (map (lit_in names)) to)
-  ways_named [] f h = every-none (AlternativeFine (length names))
+  ways_named [] f h = every_none (AlternativeFine (length names))
   ways_named ([] ∷ to) f h = absurd (every_first f).0
   ways_named ((l ∷ ls) ∷ to) f h =
       every_more (record { some = omega arith; named = lits_named (l ∷ ls) (every_left (flat atoms_in to) h) })
       (ways_named to (every_rest f) (every_right (atoms_in (l ∷ ls)) h))
 
   clauses_told : (ss : List Statement) → Every Known (flat mentions_in ss) → Every (Body (length names)) (flat (clauses_in names) ss)
-  clauses_told [] h = every-none (Body (length names))
+  clauses_told [] h = every_none (Body (length names))
   clauses_told (clause a body ∷ ss) h =
       let own : Every Known (a ∷ atoms_in body) = every_left (flat mentions_in ss) h in
       every_more (every_first own, lits_named body (every_rest own)) (clauses_told ss (every_right (a ∷ atoms_in body) h))
   clauses_told (constraint c to ∷ ss) h = clauses_told ss (every_right (atoms_in c ++ flat atoms_in to) h)
 
   constraints_told : (ss : List Statement) → Every StatementFine ss → Every Known (flat mentions_in ss) → Every (ConstraintFine (length names)) (flat (constraints_in names) ss)
-  constraints_told [] f h = every-none (ConstraintFine (length names))
+  constraints_told [] f h = every_none (ConstraintFine (length names))
   constraints_told (clause a body ∷ ss) f h = constraints_told ss (every_rest f) (every_right (a ∷ atoms_in body) h)
   constraints_told (constraint c to ∷ ss) f h =
       let own : Every Known (atoms_in c ++ flat atoms_in to) = every_left (flat mentions_in ss) h in

@@ -6,7 +6,7 @@ use mathlib.Core.List.Memᴰ
 use Rattle.std.proofs.lemmas.List.{map-append, length-map}
 use Rattle.std.proofs.Math.Seq.{split_at}
 use Rattle.base.specs.paper.Bools.{choose}
-use Rattle.base.specs.Bools.{clash, choose-true}
+use Rattle.base.specs.Bools.{clash, choose_true}
 use Rattle.base.specs.paper.Lists.{◌∈◌, Every, any, put, filter, Once}
 use Rattle.base.specs.Lists.{here, any_some, any_append, ahead, ahead_append}
 use Rattle.base.specs.Parts.{filter_from, filter_append, filter_true, pairwise_between, pairwise_right}
@@ -62,7 +62,7 @@ module _ (before after : List Atom) (a : Atom) (once : Once (map name_of (before
 
   first_of : (kind : Atom → Bool) (u : List Word) → ahead (same a.name) ((map name_of (filter kind before) ++ a.name ∷ u)) ≡ length (filter kind before)
   first_of kind u =
-      let e : ahead (same a.name) (a.name ∷ u) ≡ 0 = choose-true 0 (suc (ahead (same a.name) u)) (same_refl a.name) in
+      let e : ahead (same a.name) (a.name ∷ u) ≡ 0 = choose_true 0 (suc (ahead (same a.name) u)) (same_refl a.name) in
       omega (
         arith,
         e,

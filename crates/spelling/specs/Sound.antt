@@ -6,7 +6,7 @@ use Rattle.std.proofs.Math.Path.{sym, ap}
 use Rattle.std.proofs.Common.{◌∙◌, subst}
 use mathlib.Core.List.{List, [], ◌∷◌, ◌++◌, append_assoc, append-nil}
 use Rattle.base.specs.paper.Lists.{Every, flat}
-use Rattle.base.specs.Lists.{every-none, every_more, here}
+use Rattle.base.specs.Lists.{every_none, every_more, here}
 use Rattle.spelling.specs.paper.Words.{Word, same, abd, naf, close, comma, semicolon, dot, neck, arrow, query, true_word, false_word, is_name}
 use Rattle.spelling.specs.paper.Document.{Atom, Literal, clause, Document, of_atom, of_literal, joined, or_word, of_literals, of_side, of_ways, of_body, of_statement, of_document, AtomFine, LiteralsFine, NonEmpty, WayFine, StatementFine, Fine}
 use Rattle.spelling.specs.WordLaws.{same_true}
@@ -85,7 +85,7 @@ module _ {A : Type 0} (s : Word) (item : Walk A) (f : A → List Word) (F : A �
       ok_after (item ws) _ (Item-ok ws) λ x m p.
       ok_next s _ _ m
       (λ us e. ok_after (separated s item n us) _ (separated_ok n us) λ xs r q. ok (many x m us xs r p e q))
-      (ok (p.0 ∙ ap (λ (z : List Word). z ++ m) (sym (append-nil (f x))), (tt, every_more p.1 (every-none F))))
+      (ok (p.0 ∙ ap (λ (z : List Word). z ++ m) (sym (append-nil (f x))), (tt, every_more p.1 (every_none F))))
     where
       many : (x : A) (m us : List Word) (xs : List A) (r : List Word) → Front f F ws x m → m ≡ s ∷ us
           → Front (joined s f) (Fines F) us xs r → Front (joined s f) (Fines F) ws (x ∷ xs) r
@@ -104,7 +104,7 @@ literals_ok n ws = separated_ok comma literal of_literal LiteralFine literal_ok 
 module _ {A : Type 0} (v : Word) (w : Walk (List A)) (f : List A → List Word) (F : A → Type 0)
     (some-ok : (ws : List Word) → Ok (Front f (Fines F) ws) (w ws)) where
   pub or_ok : (ws : List Word) → Ok (Front (or_word v f) (Every F) ws) (next v (give []) w ws)
-  or_ok ws = ok_next v (give []) w ws (λ us e. ok (e, every-none F)) (go (w ws) (some-ok ws))
+  or_ok ws = ok_next v (give []) w ws (λ us e. ok (e, every_none F)) (go (w ws) (some-ok ws))
     where
       go : (st : Step (List A)) → Ok (Front f (Fines F) ws) st → Ok (Front (or_word v f) (Every F) ws) st
       go st none = none
@@ -128,7 +128,7 @@ pub from_head_ok : (n : ℕ) (t : Bool) (a : Atom) (ws m : List Word) → Front 
 unfolding from_head
 from_head_ok n false a ws m p = none
 from_head_ok n true a ws m p =
-    ok_next dot _ _ m (λ us e. ok (onto (of_atom a) (dot ∷ []) us p.0 e, (p.1, every-none LiteralFine)))
+    ok_next dot _ _ m (λ us e. ok (onto (of_atom a) (dot ∷ []) us p.0 e, (p.1, every_none LiteralFine)))
     (ok_after (the neck m) _ (the_ok neck m) λ _ us e.
     ok_after (literals n us) _ (literals_ok n us) λ body k q.
     ok_after (the dot k) _ (the_ok dot k) λ _ r d. ok (last us k body r e q d))
@@ -162,7 +162,7 @@ unfolding document goal_line
 document_ok m zero ws = none
 document_ok m (suc n) ws =
     ok_next query _ _ ws
-    (λ us e. ok_after (goal_line m us) _ (goal us) λ ls r q. ok (e ∙ ap (λ (z : List Word). query ∷ z) q.0, (every-none StatementFine, q.1)))
+    (λ us e. ok_after (goal_line m us) _ (goal us) λ ls r q. ok (e ∙ ap (λ (z : List Word). query ∷ z) q.0, (every_none StatementFine, q.1)))
     (ok_after (statement m ws) _ (statement_ok m ws) λ s k p.
     ok_after (document m n k) _ (document_ok m n k) λ d r q.
     ok (onto (of_statement s) (of_document d) r p.0 q.0 ∙ ap (λ (z : List Word). z ++ r) (sym (append_assoc (of_statement s) (flat of_statement d.statements) (query ∷ (of_side d.goal ++ dot ∷ [])))), (every_more p.1 q.1.0, q.1.1)))

@@ -8,7 +8,7 @@ use Rattle.std.proofs.Math.Bool.{true, false, not}
 use Rattle.std.proofs.Math.Logic.{⊎_elim}
 use mathlib.Core.List.Memᴰ
 use mathlib.Core.List.{List, [], ◌∷◌, ◌++◌, map, map-append, append_assoc, append-nil}
-use Rattle.base.specs.Bools.{clash, decide, both, same_test, choose-true, choose-false}
+use Rattle.base.specs.Bools.{clash, decide, both, same_test, choose_true, choose_false}
 use Rattle.base.specs.paper.Lists.{◌∈◌, put, filter}
 use Rattle.base.specs.Lists.{here, there, ∈_left, ∈_right, ∈_split, any_some, some_any, any_append}
 use Rattle.base.specs.Parts.{filter_has, filter_from, filter_append, filter_two, filter_true}
@@ -27,11 +27,11 @@ neither false t e = (refl, e)
 
 pub enter_known : (table : List Atom) (a : Atom) → known table a.name ≡ true → enter table a ≡ table
 unfolding enter
-enter_known table a e = choose-true table (table ++ a ∷ []) e
+enter_known table a e = choose_true table (table ++ a ∷ []) e
 
 pub enter_new : (table : List Atom) (a : Atom) → known table a.name ≡ false → enter table a ≡ table ++ a ∷ []
 unfolding enter
-enter_new table a e = choose-false table (table ++ a ∷ []) e
+enter_new table a e = choose_false table (table ++ a ∷ []) e
 
 known_entry : (table : List Atom) (n : Word) → known table n ≡ true → (e : Atom) × (e ∈ table) × (n ≡ e.name)
 known_entry table n k =

@@ -5,9 +5,9 @@ use Rattle.std.proofs.Common.{arith, sym, ap₂, subst, subst₂, ◌∙◌, inl
 use Rattle.std.proofs.Math.Path.{refl, ap}
 use Rattle.std.proofs.Math.Seq.{drop-nil}
 use Rattle.base.specs.paper.Bools.{choose}
-use Rattle.base.specs.Bools.{choose-false}
+use Rattle.base.specs.Bools.{choose_false}
 use Rattle.base.specs.paper.Lists.{Every, sum, filter, put}
-use Rattle.base.specs.Lists.{every-none, every_more}
+use Rattle.base.specs.Lists.{every_none, every_more}
 use Rattle.image.specs.paper.Book.{Lit, Clause, Constraint, Book, body_count, literal_count}
 use Rattle.image.specs.Encode.{longest_image_lem}
 use Rattle.image.specs.paper.Walk.{field_at}
@@ -96,7 +96,7 @@ pub record Filled (image work after : List ℕ) : Type 0 where
   pub stays : (j : ℕ) → trail ≤ j → get_or after j 0 ≡ get_or work j 0
 
 pub opposites_single : (ls : List Lit) → Every (λ (ks : List Lit). length ks ≤ 1) (opposites ls)
-opposites_single [] = every-none (λ (ks : List Lit). length ks ≤ 1)
+opposites_single [] = every_none (λ (ks : List Lit). length ks ≤ 1)
 opposites_single (l ∷ ls) = every_more (omega arith) (opposites_single ls)
 
 shut_next : (heads : ℕ → ℕ) (p c n : ℕ) → shut (next heads clause_record joins p c n) ≡ next heads clause_record no_link p c n
@@ -104,7 +104,7 @@ shut_next heads p c zero = refl
 shut_next heads p c (suc n) = go (eqb (heads c) p) (shut_next heads p (suc c) n)
   where
     go : (t : Bool) → shut (next heads clause_record joins p (suc c) n) ≡ next heads clause_record no_link p (suc c) n → shut (choose t (clause_record c) (next heads clause_record 1 p (suc c) n)) ≡ choose t (clause_record c) (next heads clause_record no_link p (suc c) n)
-    go true r = choose-false no_link (clause_record c) (ne_eqb (clause_record c) joins (λ z. omega (arith, z)))
+    go true r = choose_false no_link (clause_record c) (ne_eqb (clause_record c) joins (λ z. omega (arith, z)))
     go false r = r
 
 -- where no clause has head p, its literal's number stays

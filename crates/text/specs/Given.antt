@@ -4,7 +4,7 @@ use Rattle.std.specs.Prelude.{ℕ, ◌+◌, ◌-◌, ◌%◌, ◌≤◌, ◌<◌
 use Rattle.std.proofs.Common.{arith, add-one, sym, ap, ◌∙◌, subst, ⊎_elim, length-append, length-set, take-suc, get_or-set_same, get_or-set_other, eqb-true, eq-eqb}
 use Rattle.std.proofs.lemmas.Bool.{eqb-false}
 use Rattle.base.specs.paper.Bools.{choose}
-use Rattle.base.specs.Bools.{decide, choose-true, choose-false}
+use Rattle.base.specs.Bools.{decide, choose_true, choose_false}
 use Rattle.base.specs.paper.Lists.{put, filter}
 use Rattle.base.specs.Parts.{filter_append}
 use Rattle.spelling.specs.paper.Answer.{longest_text}
@@ -66,7 +66,7 @@ module _ {entries : List ℕ} {marked : ℕ} {numbers : List ℕ} {before n : �
         within = omega (arith, h);
         some = omega (arith, g.some);
         marks = omega (arith, g.marks, marks_next entries n h true t);
-        given = set_given before (g.marks ∙ sym (choose-true (marks_in (take n entries)) (marked + (n - marks_in (take n entries))) t));
+        given = set_given before (g.marks ∙ sym (choose_true (marks_in (take n entries)) (marked + (n - marks_in (take n entries))) t));
       }
 
   pub giving_other : (get_or entries n 0 % 2 ≡ 1 → ⊥) → Giving entries marked (set numbers n (marked + (n - before))) before (n + 1)
@@ -79,7 +79,7 @@ module _ {entries : List ℕ} {marked : ℕ} {numbers : List ℕ} {before n : �
         marks = omega (arith, g.marks, marks_next entries n h false t);
         given =
             set_given (marked + (n - before))
-            (ap (λ (k : ℕ). marked + (n - k)) g.marks ∙ sym (choose-false (marks_in (take n entries)) (marked + (n - marks_in (take n entries))) t));
+            (ap (λ (k : ℕ). marked + (n - k)) g.marks ∙ sym (choose_false (marks_in (take n entries)) (marked + (n - marks_in (take n entries))) t));
       }
     where
       other : (t : Bool) → marked_entry (get_or entries n 0) ≡ t → t ≡ false

@@ -6,7 +6,7 @@ use Rattle.std.proofs.Math.Path.{refl, ap}
 use Rattle.std.proofs.Common.{◌∙◌, subst, lt-ltb, le-ltb}
 use mathlib.Core.List.{List, ◌∷◌}
 use native.Mathlib.Omega.{arith}
-use Rattle.base.specs.Bools.{choose-true, choose-false}
+use Rattle.base.specs.Bools.{choose_true, choose_false}
 use Rattle.std.proofs.Math.ListN.{length}
 use Rattle.base.specs.paper.Lists.{sum}
 use Rattle.image.specs.paper.Book.{Lit, body_count, literal_count}
@@ -118,13 +118,13 @@ module _ (image : List ℕ) (most : Limits) (atoms end : ℕ) where
   ways_done zero total at h = let q : total + 0 ≡ total = omega arith in ap (λ (k : ℕ). found k at) q
   ways_done (suc n) total at h =
       let q : total + 0 ≡ total = omega arith in
-      ap (seen (λ ways. total + sum length ways)) (choose-false _ _ (le-ltb at end h)) ∙ ap (λ (k : ℕ). found k at) q
+      ap (seen (λ ways. total + sum length ways)) (choose_false _ _ (le-ltb at end h)) ∙ ap (λ (k : ℕ). found k at) q
 
   ways_step : (n total at : ℕ) → at < end
       → alternatives image most atoms end (suc n) total at
       ≡ after (alternative image most atoms end total at) (λ ls at'. after (alternatives image most atoms end n (total + length ls) at') (λ ways. give (ls ∷ ways)))
   unfolding alternatives
-  ways_step n total at h = choose-true _ _ (lt-ltb at end h)
+  ways_step n total at h = choose_true _ _ (lt-ltb at end h)
 
   pub ways_fault : (n total at m p : ℕ) → at < end → seen length (alternative image most atoms end total at) ≡ fault m p → ways_seen (suc n) total at ≡ fault m p
   unfolding ways_seen

@@ -3,7 +3,7 @@
 use Rattle.std.specs.Prelude.{ℕ, ◌+◌, ◌-◌, ◌*◌, ◌≤◌, ◌<◌, ◌≡◌, List, ◌++◌, length}
 use Rattle.std.proofs.Common.{arith, sym, ap, length-append, eq-eqb, ne_eqb}
 use Rattle.std.proofs.Math.Seq.{slice}
-use Rattle.base.specs.Bools.{choose-true, choose-false}
+use Rattle.base.specs.Bools.{choose_true, choose_false}
 use Rattle.spelling.specs.Codes.{dot_code}
 use Rattle.writer.specs.Fields.{Part, number_in, rule_of, lits_of, counted, ways_of, inside_of}
 use Rattle.writer.specs.Wrote.{Wrote, wrote_length, wrote_same, wrote_more}
@@ -31,7 +31,7 @@ module _ (codes : List ℕ) (goal : ℕ) (numbers : List ℕ) (kind from to : �
   module _ (e : kind ≡ dot_code) where
     clause : all ≡ rule_of (number_in numbers) ks
     unfolding inside_of
-    clause = choose-true _ _ (eq-eqb _ _ e)
+    clause = choose_true _ _ (eq-eqb _ _ e)
 
     pub clause_room : (at n : ℕ) → at + 2 * length all ≤ n → 2 * length (rule_of (number_in numbers) ks) ≤ n - at
     clause_room at n h = omega (arith, ap length clause)
@@ -42,7 +42,7 @@ module _ (codes : List ℕ) (goal : ℕ) (numbers : List ℕ) (kind from to : �
   module _ (e : kind ≡ dot_code → ⊥) where
     constraint : all ≡ conditions ++ ways
     unfolding inside_of
-    constraint = choose-false _ _ (ne_eqb _ _ e)
+    constraint = choose_false _ _ (ne_eqb _ _ e)
 
     pub conditions_room : (at n : ℕ) → at + 2 * length all ≤ n → at + 2 * length conditions ≤ n
     conditions_room at n h = omega (arith, ap length constraint, length-append conditions ways)

@@ -6,7 +6,7 @@ use Rattle.std.proofs.Math.Path.{ap}
 use Rattle.std.proofs.Math.Seq.{slice, slice_empty}
 use Rattle.std.proofs.lemmas.Bool.{lt-leb}
 use Rattle.base.specs.paper.Bools.{choose}
-use Rattle.base.specs.Bools.{choose-true, choose-false}
+use Rattle.base.specs.Bools.{choose_true, choose_false}
 use Rattle.base.specs.Scans.{next}
 use Rattle.image.specs.Laid.{laid}
 use Rattle.spelling.specs.Codes.{naf_code, first_name}
@@ -17,12 +17,12 @@ use Rattle.writer.specs.Due.{OnePart}
 pub names_other : (number : Numbers) (factor sign k : ℕ) (ks : List ℕ) → k < first_name
     → names_from number factor sign (k ∷ ks) ≡ names_from number factor (sign_after sign k) ks
 unfolding names_from
-names_other number factor sign k ks h = choose-false _ _ (lt-leb first_name k h)
+names_other number factor sign k ks h = choose_false _ _ (lt-leb first_name k h)
 
 pub names_name : (number : Numbers) (factor sign k : ℕ) (ks : List ℕ) → first_name ≤ k
     → names_from number factor sign (k ∷ ks) ≡ (factor * number (k - first_name) + sign) ∷ names_from number literal_factor 0 ks
 unfolding names_from
-names_name number factor sign k ks h = choose-true _ _ (le-leb first_name k h)
+names_name number factor sign k ks h = choose_true _ _ (le-leb first_name k h)
 
 sign_small : (sign k : ℕ) → sign ≤ negated → sign_after sign k ≤ negated
 unfolding sign_after

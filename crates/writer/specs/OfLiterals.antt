@@ -7,7 +7,7 @@ use Rattle.std.proofs.Common.{sym, ◌∙◌}
 use Rattle.std.proofs.Math.Bool.{true, false}
 use mathlib.Core.List.{List, [], ◌∷◌, ◌++◌, map, append_assoc, append-nil}
 use borrow.Author.Tests.{le-leb, lt-leb}
-use Rattle.base.specs.Bools.{choose-true}
+use Rattle.base.specs.Bools.{choose_true}
 use Rattle.base.specs.paper.Lists.{Every, flat}
 use Rattle.base.specs.Lists.{every_first, every_rest}
 use Rattle.image.specs.paper.Spell.{of_lit, of_lits}
@@ -22,7 +22,7 @@ use Rattle.writer.specs.EachWord.{Inner}
 
 pub code_name : (names : List Word) (n : Word) → is_name n ≡ true → code_of names n ≡ first_name + number_of names n
 unfolding code_of
-code_name names n h = choose-true _ _ h
+code_name names n h = choose_true _ _ h
 
 -- ---- no end among them
 

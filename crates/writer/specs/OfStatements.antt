@@ -7,9 +7,9 @@ use Rattle.std.proofs.Math.Path.{refl, sym, ap, ap₂}
 use Rattle.std.proofs.Common.{◌∙◌}
 use mathlib.Core.List.{List, [], ◌∷◌, ◌++◌, map, append_assoc, append-nil, map-append}
 use Rattle.std.proofs.Math.ListN.{length, length-append, length-map}
-use Rattle.base.specs.Bools.{choose-true, choose-false}
+use Rattle.base.specs.Bools.{choose_true, choose_false}
 use Rattle.base.specs.paper.Lists.{Every, flat}
-use Rattle.base.specs.Lists.{every-none, every_more, every_first, every_rest, every_both}
+use Rattle.base.specs.Lists.{every_none, every_more, every_first, every_rest, every_both}
 use Rattle.base.specs.Flat.{flat_append, every_map}
 use Rattle.image.specs.paper.Spell.{of_lits, of_alternative, of_record, of_clause, of_constraint}
 use Rattle.spelling.specs.paper.Words.{Word, same, small, in_name, semicolon, dot, arrow, false_word, is_name}
@@ -25,8 +25,8 @@ use Rattle.writer.specs.OfLiterals.{Opens, open_name, open_inner, Good, GoodLite
 -- codes among which no part ends, and an end
 part_ended : (ks : List ℕ) (k : ℕ) (rest : List ℕ) → Every (λ (j : ℕ). is_end j ≡ false) ks → is_end k ≡ true → parts_of (ks ++ k ∷ rest) ≡ part ks k ∷ parts_of rest
 unfolding parts_of
-part_ended [] k rest o e = choose-true _ _ e
-part_ended (j ∷ ks) k rest o e = choose-false _ _ (every_first o) ∙ ap (longer j) (part_ended ks k rest (every_rest o) e)
+part_ended [] k rest o e = choose_true _ _ e
+part_ended (j ∷ ks) k rest o e = choose_false _ _ (every_first o) ∙ ap (longer j) (part_ended ks k rest (every_rest o) e)
 
 module _ (names : List Word) where
   abbrev codes : List Word → List ℕ
@@ -66,7 +66,7 @@ module _ (names : List Word) where
 
   parts_ways : (to : List (List Literal)) (ws : List Word) → Every WayFine to → parts_of (codes (of_ways to ++ dot ∷ ws)) ≡ ways_parts to ++ parts_of (codes ws)
   unfolding is_end code_of is_name same small in_name
-  parts_ways [] ws h = word_ended (false_word ∷ []) dot dot_code ws (every_more refl (every-none _)) refl refl
+  parts_ways [] ws h = word_ended (false_word ∷ []) dot dot_code ws (every_more refl (every_none _)) refl refl
   parts_ways (ls ∷ to) ws h =
       ap (λ (z : List Word). parts_of (codes z)) (append_assoc (of_literals ls) (flat (λ (k : List Literal). semicolon ∷ of_literals k) to) (dot ∷ ws))
       ∙ parts_way ls to ws (every_first h).1 (every_rest h)

@@ -2,15 +2,15 @@
 use mathlib.Core.Path.{sym}
 use borrow.Author.Tests.{eq-eqb, ne_eqb}
 use borrow.Author.Rules.{rules}
-use Rattle.base.specs.Bools.{choose-true, choose-false}
+use Rattle.base.specs.Bools.{choose_true, choose_false}
 use Rattle.area.proofs.links.shut.Statement.{statement}
 use Rattle.area.proofs.links.shut.Tie as tie
 
 returns : tie.Need-returns
-returns c = sym (choose-true _ _ (eq-eqb _ _ c.if1.true))
+returns c = sym (choose_true _ _ (eq-eqb _ _ c.if1.true))
 
 returns-2 : tie.Need-returns-2
-returns-2 c = sym (choose-false _ _ (ne_eqb _ _ c.if1.false))
+returns-2 c = sym (choose_false _ _ (ne_eqb _ _ c.if1.false))
 
 pub shut_spec : {M : Type 1} → statement M
 shut_spec =

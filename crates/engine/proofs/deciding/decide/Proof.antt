@@ -4,7 +4,7 @@ use Prim.Native.Nat.{ℕ}
 use mathlib.Core.Path.{◌≡◌, sym, ap, ◌∙◌}
 use lib.ListN.{length, take}
 use lib.Seq.{length-take-le}
-use Rattle.base.specs.Bools.{choose-true, choose-false}
+use Rattle.base.specs.Bools.{choose_true, choose_false}
 use Rattle.engine.specs.VerdictLaws.{settles, settles_by}
 use borrow.Author.Rules.{rules}
 use Rattle.engine.proofs.deciding.decide.Statement.{statement}
@@ -27,23 +27,23 @@ returns-2 c =
     let m = c.before.before in
     sym
     (settles_by m.before.before.args.hypothesis (front m) (some m)
-    ∙ choose-true _ _ (sym c.before.in-every.ensures ∙ c.if2.true))
+    ∙ choose_true _ _ (sym c.before.in-every.ensures ∙ c.if2.true))
 
 returns-3 : tie.Need-returns-3
 returns-3 c =
     let m = c.before.before.before.before in
     sym
     (settles_by m.before.before.args.hypothesis (front m) (some m)
-    ∙ choose-false _ _ (sym c.before.before.before.in-every.ensures ∙ c.before.before.if2.false)
-    ∙ choose-true _ _ (sym c.before.in_some.ensures ∙ c.if3.true))
+    ∙ choose_false _ _ (sym c.before.before.before.in-every.ensures ∙ c.before.before.if2.false)
+    ∙ choose_true _ _ (sym c.before.in_some.ensures ∙ c.if3.true))
 
 returns-4 : tie.Need-returns-4
 returns-4 c =
     let m = c.before.before.before.before in
     sym
     (settles_by m.before.before.args.hypothesis (front m) (some m)
-    ∙ choose-false _ _ (sym c.before.before.before.in-every.ensures ∙ c.before.before.if2.false)
-    ∙ choose-false _ _ (sym c.before.in_some.ensures ∙ c.if3.false))
+    ∙ choose_false _ _ (sym c.before.before.before.in-every.ensures ∙ c.before.before.if2.false)
+    ∙ choose_false _ _ (sym c.before.in_some.ensures ∙ c.if3.false))
 
 pub decide_spec : {M : Type 1} → statement M
 decide_spec =
