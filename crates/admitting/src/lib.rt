@@ -1,4 +1,6 @@
 // The second search as a call: whether some explaining set has the hypothesis (paper 02, A3.7).
+#![tactic(auto)]
+
 ghost use Rattle.admitting.specs.paper.Promise.{Admits};
 ghost use Rattle.admitting.specs.AdmitLaws.{Seekable, Sought};
 

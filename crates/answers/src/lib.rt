@@ -1,4 +1,6 @@
 // The line that tells the answer of each call, and what it left in lent memory.
+#![tactic(auto)]
+
 use book::Reading;
 use cases::output;
 use engine::{Admission, Joined, Judgement, Listing, Verdict};

@@ -1,6 +1,8 @@
 // The work area's layout, in numbers of 32 bits: where each table begins, and how wide an entry of it is. Each begins where the
 // one before it ends, by the limits; the search writes none from LITERALS to TRAIL. An agenda is at, end and link: the
 // literals from at to end of the image, or, where there is no end, the record at and those behind it; then what the cell at link has.
+#![tactic(auto)]
+
 pub mod links;
 pub mod ways;
 

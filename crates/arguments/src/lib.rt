@@ -5,6 +5,8 @@
 //   unopened P    the file that argument P names cannot be opened
 //   unread P      it cannot be read
 //   overlong P    it has more bytes than its job takes
+#![tactic(auto)]
+
 pub mod files;
 pub mod numbers;
 

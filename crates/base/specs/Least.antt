@@ -129,7 +129,7 @@ module _ {ℓ} {A : Type ℓ} (inside : A → A → Bool) where
     pub inserted_least : {P : A → Type ℓ} (l kept : List A) → Least P kept → Least (λ x. P x ⊎ (x ∈ l)) (foldl insert kept l)
     inserted_least {P = P} [] kept least = least_same (λ x. (λ p. inl p, λ w. ⊎_elim (λ p. p) (λ (m : x ∈ []). absurd (Memᴰ.not-nil m)) w)) least
     inserted_least {P = P} (s ∷ l) kept least =
-        least_same (λ x. (to x, back x)) (inserted_least l (insert kept s) (insert_least kept s least))
+        least_same (λ x. (to x, back x)) (inserted_least {P = λ x. P x ⊎ (x ≡ s)} l (insert kept s) (insert_least kept s least))
       where
         to : (x : A) → (P x ⊎ (x ≡ s)) ⊎ (x ∈ l) → P x ⊎ (x ∈ s ∷ l)
         to x (inl (inl p)) = inl p

@@ -1,5 +1,7 @@
 // The rule book's reader: paper 01, 3 and 4. It keeps nothing: the floors above
 // work on the image as lent, and crate image says where in it each part of an accepted book stands.
+#![tactic(auto)]
+
 
 ghost use Rattle.book.specs.paper.Reading.{Reads};
 

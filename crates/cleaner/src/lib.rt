@@ -1,4 +1,6 @@
 // The cleaner of paper 02, A4: whether a group of soundings may be deleted, or is held and why. It knows the engine by its promises alone.
+#![tactic(auto)]
+
 mod listed;
 mod refusals;
 mod sorting;

@@ -1,5 +1,7 @@
 // The job on groups, for the program desk, whose head has what it takes and answers: a book, a file of groups and the hypotheses to keep
 // safe are taken, and a line is written for each group (paper 02, A4.10).
+#![tactic(auto)]
+
 ghost use Rattle.std.specs.Prelude.{◌≤◌, ◌<◌, ◌≡◌, length};
 ghost use Rattle.sets.specs.SetLaws.{set_bits};
 ghost use Rattle.cleanings.specs.Buffers.{groups_bytes};

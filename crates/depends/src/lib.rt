@@ -1,5 +1,7 @@
 // The place of refusal 9: which clause is the first whose head depends on itself. From a head, the atoms of its bodies are marked, those of
 // the bodies of what is marked, and so on, until the head is marked itself or a round over the clauses marks nothing more.
+#![tactic(auto)]
+
 
 ghost use Rattle.std.specs.Prelude.{◌≡◌, ℕ, ◌<◌};
 ghost use Rattle.image.specs.paper.Book.{Book};

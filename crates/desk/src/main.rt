@@ -22,6 +22,8 @@
 // `unfit P`, `unopened P`, `unread P` and `overlong P` for argument P (crate arguments).
 //
 // A job is found by its name here; the first six are in crate jobs, then two in crate texts, and the last in crate cleanings.
+#![tactic(auto)]
+
 
 use arguments::asked;
 use cases::output;

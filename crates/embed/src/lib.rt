@@ -1,5 +1,7 @@
 // The engine for callers in C and Rust: each call under a plain name, its answer as one number (specs/paper/Codes). A `&[u8]` is passed
 // as a pointer and then a length.
+#![tactic(auto)]
+
 
 mod codes;
 

@@ -1,5 +1,7 @@
 // The engine's face: the calls of paper 01 on a rule book, each with its promise. No call has a `requires`: on all bytes and numbers
 // it ends with an answer or a numbered refusal. The promises stand in specs/paper of the crates that keep them. The reader is `book::read`.
+#![tactic(auto)]
+
 
 ghost use Rattle.judging.specs.paper.Judged.{Judges};
 ghost use Rattle.lister.specs.paper.Promise.{Lists};

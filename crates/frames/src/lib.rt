@@ -1,4 +1,6 @@
 // The frames of the search: the first way of a node is taken and a frame holds the others; after a failure the newest frame gives its next one.
+#![tactic(auto)]
+
 ghost use Rattle.std.specs.Prelude.{◌≡◌, ◌+◌, ◌-◌, ◌/◌, ◌≤◌, ◌<◌, length};
 ghost use Rattle.area.specs.Area as layout;
 ghost use Rattle.memory.specs.Places.{bits32};

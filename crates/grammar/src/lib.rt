@@ -1,5 +1,7 @@
 // Whether the words of a text, as codes, spell a document, and where its goal line stands: after the grammar of spelling/specs/paper/Document, as
 // specs/Places has it. A function that looks for a thing answers the place behind it, or the end of the words where the thing does not begin here.
+#![tactic(auto)]
+
 
 ghost use Rattle.std.specs.Prelude.{◌≡◌, ◌<◌, length};
 ghost use Rattle.spelling.specs.Codes.{other_code};

@@ -1,4 +1,6 @@
 // The group record of paper 02, A4.2, as lent, and what the book says of the atoms that were observed.
+#![tactic(auto)]
+
 pub mod writing;
 
 ghost use Rattle.std.specs.Prelude.{◌≡◌, true, ◌+◌, ◌≤◌, ◌<◌, leb, length};

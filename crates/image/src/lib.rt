@@ -1,5 +1,7 @@
 // The rule book's image, as lent: its limits, its fields, and where an accepted image has its parts; and the answer of calls that
 // write bytes. What an image says stands in specs/paper.
+#![tactic(auto)]
+
 
 pub mod fields;
 pub mod front;

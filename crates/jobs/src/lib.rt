@@ -1,4 +1,6 @@
 // The jobs on books and lists, for the program desk, whose head has what each takes and answers: arguments are taken, and one call made.
+#![tactic(auto)]
+
 use arguments::{files, numbers};
 use cases::{input, output};
 

@@ -1,4 +1,6 @@
 // The joiner of two lists of sets.
+#![tactic(auto)]
+
 ghost use Rattle.std.specs.Prelude.{◌≡◌, ◌++◌, [], ◌≤◌, length, take};
 ghost use Rattle.base.specs.paper.Lists.{any};
 ghost use Rattle.sets.specs.paper.Sets.{inside};

@@ -1,4 +1,6 @@
 // The kept sets: they stand in the front of a lent list.
+#![tactic(auto)]
+
 ghost use Rattle.std.specs.Prelude.{◌≡◌, not, ◌+◌, ◌≤◌, length, take};
 ghost use mathlib.Core.List.{foldl};
 ghost use Rattle.std.proofs.Math.Seq.{slice};

@@ -1,4 +1,6 @@
 // The lister: the tests before any search, the search, and the list in order.
+#![tactic(auto)]
+
 ghost use Rattle.std.specs.Prelude.{length};
 ghost use Rattle.lister.specs.paper.Promise.{Lists};
 ghost use Rattle.lister.specs.PromiseLaws.{Admitted, Early};

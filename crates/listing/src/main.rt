@@ -1,5 +1,7 @@
 // The printing program of paper 01, 9: lists the smallest explanations of the book whose image stands on standard input. It takes 8,752
 // bytes of that at most, one more than the longest image has.
+#![tactic(auto)]
+
 ghost use Rattle.std.specs.Prelude.{◌≡◌, length};
 ghost use Rattle.listing.specs.Buffers.{input_bytes, room};
 ghost use Rattle.area.specs.paper.Work.{work_numbers};

@@ -1,6 +1,8 @@
 // Refusal 9 in marks of atoms. Where no clause names an atom that has a clause with a body at or before it, the book has no loop. Otherwise each
 // loop goes through an atom that is late: a clause of it, with a body, stands at or behind one that names it. In rounds over the clauses such
 // atoms are let go, until none is held, and the book has no loop, or a round lets none go.
+#![tactic(auto)]
+
 
 ghost use Rattle.std.specs.Prelude.{◌≡◌, ◌||◌, ℕ, ◌≤◌, ◌<◌, length};
 ghost use Rattle.image.specs.paper.Book.{Book};

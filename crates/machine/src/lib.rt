@@ -1,5 +1,7 @@
 // The search: the rules of paper 01, 7 as a machine that runs on the tables and the image. The kept sets stand in the front of the lent
 // list, all else in the lent work area (area has the layout).
+#![tactic(auto)]
+
 mod start;
 mod steps;
 

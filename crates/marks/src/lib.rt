@@ -1,4 +1,6 @@
 // Marks of atoms, as many as a book may have: a bit for each, in four words.
+#![tactic(auto)]
+
 ghost use Rattle.std.specs.Prelude.{◌≡◌, true, false, ◌||◌, ◌↔◌, ℕ, ◌<◌, get_or, set, eqb};
 ghost use Rattle.marks.specs.Marked.{words, markable, words_of, marked};
 

@@ -1,6 +1,8 @@
 // The words of a text with their numbers. Each name has its place in a table: `entries` has for each name twice the place in the text where
 // it is first met, and one more if it is marked there. `latest` has for each bucket 1 + the latest entry, and `earlier`, for
 // each entry, 1 + the one of the same bucket before it (0: none).
+#![tactic(auto)]
+
 
 ghost use Rattle.std.specs.Prelude.{◌≡◌, List, ◌+◌, ◌≤◌, ◌<◌, length};
 ghost use Rattle.spelling.specs.paper.Words.{same};

@@ -1,5 +1,7 @@
 // The operations of the test driver on books and lists (crate replay): a case is taken, its line written, and answered whether it was well
 // formed.
+#![tactic(auto)]
+
 use cases::input;
 
 pub fn read_case() -> bool {

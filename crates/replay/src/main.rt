@@ -24,6 +24,8 @@
 //                                                               ` work ..` as for 3
 //
 // What an operation does is in crate operations for 1 to 5 and 13, in crate rooms for 6 and 12, and in crate verdicts for 7.
+#![tactic(auto)]
+
 
 use cases::{input, output};
 

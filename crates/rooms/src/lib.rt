@@ -3,6 +3,8 @@
 //
 //   written N bytes, a space and the first N bytes of the room in small hex, then ` rest untouched` or ` rest other`
 //   refused R room untouched | refused R room other
+#![tactic(auto)]
+
 
 ghost use Rattle.std.specs.Prelude.{◌≤◌, ◌≡◌, length};
 ghost use Rattle.rooms.specs.Buffers.{text_bytes, room_bytes, digit_bytes};

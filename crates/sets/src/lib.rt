@@ -1,4 +1,6 @@
 // Sets as numbers: a lent list of them, its limit, and whether a set has a member.
+#![tactic(auto)]
+
 pub mod lists;
 pub mod members;
 

@@ -1,5 +1,7 @@
 // Rules as surveyors type them: what a text says and what is answered stand in specs/. Here are the numbers of words that the code over it
 // shares, as specs/Codes has them.
+#![tactic(auto)]
+
 
 pub mod words;
 

@@ -1,5 +1,7 @@
 // The book as tables in the lent work area: what each literal, clause and constraint asks of a search. They are filled from the
 // image before it, and the search does not write them.
+#![tactic(auto)]
+
 mod records;
 
 ghost use Rattle.area.specs.Area.{Long};

@@ -1,4 +1,6 @@
 // Rules as surveyors type them, paper 02, A1: a text in, the image of the book that it says out; and the names of its atoms.
+#![tactic(auto)]
+
 mod lines;
 mod numbers;
 

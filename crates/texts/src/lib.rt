@@ -1,4 +1,6 @@
 // The jobs on texts, for the program desk, whose head has what each takes and answers: a text and a room are taken, and one call made.
+#![tactic(auto)]
+
 use arguments::{files, numbers};
 
 // The places of what a job takes: argument 1 is the job itself.

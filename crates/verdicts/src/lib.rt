@@ -1,6 +1,8 @@
 // What the cleaner says of a group, for the programs: its answer in words, and the case of the test driver.
 //
 //   deleted | held, and for each hypothesis, ascending, a space, its number, a colon and its verdict | refused R
+#![tactic(auto)]
+
 
 ghost use Rattle.std.specs.Prelude.{◌<◌};
 ghost use Rattle.sets.specs.SetLaws.{set_bits};

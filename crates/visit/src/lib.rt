@@ -1,4 +1,6 @@
 // What a node does with the task in hand: a literal is wanted, a record is picked, a success is kept.
+#![tactic(auto)]
+
 ghost use Rattle.std.specs.Prelude.{◌≡◌, ◌+◌, ◌^◌, ◌≤◌, ◌<◌, length};
 ghost use Rattle.image.specs.paper.Faults.{limits};
 ghost use Rattle.sets.specs.paper.Kept.{longest};

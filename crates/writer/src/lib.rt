@@ -1,5 +1,7 @@
 // The image of a document whose words are held as codes, after image/specs/paper/Spell. Counts and record lengths stand in front of what they
 // count, and are put there last.
+#![tactic(auto)]
+
 
 pub mod literals;
 pub mod statements;
