@@ -15,11 +15,11 @@ module _ {s : List ℕ} where
 
   pub stands_left : {at : ℕ} (xs ys : List ℕ) → Stands s at (xs ++ ys) → Stands s at xs
   stands_left [] ys h = none
-  stands_left (x ∷ xs) ys (more there value h) = more there value (stands_left xs ys h)
+  stands_left {at = at} (x ∷ xs) ys (more there value h) = more there value (stands_left {at = at + 2} xs ys h)
 
   pub stands_right : {at : ℕ} (xs : List ℕ) {ys : List ℕ} → Stands s at (xs ++ ys) → Stands s (at + 2 * length xs) ys
   stands_right {at} [] h = stands_at (omega arith) h
-  stands_right {at} (x ∷ xs) (more there value h) = stands_at (omega arith) (stands_right xs h)
+  stands_right {at} (x ∷ xs) (more there value h) = stands_at (omega arith) (stands_right {at = at + 2} xs h)
 
   pub stands_there : {at x : ℕ} {xs : List ℕ} → Stands s at (x ∷ xs) → at + 2 ≤ length s
   stands_there (more there value h) = there
@@ -33,11 +33,11 @@ module _ {s : List ℕ} where
   -- what stands lies within the image
   pub stands_within : {at : ℕ} (x : ℕ) (xs : List ℕ) → Stands s at (x ∷ xs) → at + 2 * length (x ∷ xs) ≤ length s
   stands_within {at} x [] (more there value h) = omega arith
-  stands_within {at} x (y ∷ xs) (more there value h) = let k : at + 2 + 2 * length (y ∷ xs) ≤ length s = stands_within y xs h in omega arith
+  stands_within {at} x (y ∷ xs) (more there value h) = let k : at + 2 + 2 * length (y ∷ xs) ≤ length s = stands_within {at = at + 2} y xs h in omega arith
 
   -- as many field values that stand at one place are the same
   pub stands_same : {at : ℕ} (xs ys : List ℕ) → Stands s at xs → Stands s at ys → length xs ≡ length ys → xs ≡ ys
   stands_same [] [] h k e = refl
   stands_same [] (y ∷ ys) h k e = absurd (omega arith)
   stands_same (x ∷ xs) [] h k e = absurd (omega arith)
-  stands_same (x ∷ xs) (y ∷ ys) (more t v h) (more t' v' k) e = ap₂ ◌∷◌ (sym v ∙ v') (stands_same xs ys h k (omega arith))
+  stands_same {at = at} (x ∷ xs) (y ∷ ys) (more t v h) (more t' v' k) e = ap₂ ◌∷◌ (sym v ∙ v') (stands_same {at = at + 2} xs ys h k (omega arith))

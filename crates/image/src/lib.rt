@@ -2,7 +2,6 @@
 // write bytes. What an image says stands in specs/paper.
 #![tactic(auto)]
 
-
 pub mod fields;
 pub mod front;
 pub mod limits;

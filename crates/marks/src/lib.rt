@@ -8,7 +8,7 @@ use sets::members;
 use sets::members::SET_BITS;
 
 // The marks of the first atoms in the first word, of the next in the second, and so on.
-#[derive(Drop)]
+#[derive(Clone, Copy)]
 pub struct Marks {
     first: u64,
     second: u64,

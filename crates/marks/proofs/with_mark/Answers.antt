@@ -9,19 +9,15 @@ use lib.ListN.{set}
 use Rattle.sets.specs.SetLaws.{set_bits}
 use Rattle.marks.specs.Marked.{words_of, mark_in, marked}
 use Rattle.marks.specs.MarkLaws.{mark_more}
-use Rattle.marks.proofs.with_mark.Statement.{statement}
-use Rattle.marks.proofs.with_mark.Tie as tie
+use Rattle.marks.proofs.with_mark.Goals as goal
 
-returns : tie.Need-returns
+pub returns : goal.returns
 unfolding marked
 returns c =
     λ p.
     let e = c.before.before.before in
     let ws : List ℕ = words_of e.args.marks in
     let atom : ℕ = e.args.atom in
-    ap (λ (l : List ℕ). mark_in l p) c.with-word.ensures
-    ∙ ap (λ (word : ℕ). mark_in (set ws (atom / set_bits) word) p) (c.before.with-member.ensures ∙ ap (bit_or (2 ^ (atom % set_bits))) c.before.before.word.ensures)
+    ap (λ (l : List ℕ). mark_in l p) c.with_word.ensures
+    ∙ ap (λ (word : ℕ). mark_in (set ws (atom / set_bits) word) p) (c.with_member.ensures ∙ ap (bit_or (2 ^ (atom % set_bits))) c.word.ensures)
     ∙ mark_more ws refl atom (omega arith) p
-
-pub with_mark_spec : {M : Type 1} → statement M
-with_mark_spec = tie.close (tie.spec (λ c κs. search rules) (λ c κs. search rules) (λ c κs. search rules) returns)
