@@ -1,3 +1,2 @@
 // What a set of assumptions explains: paper 01, 5. Specs alone; the judge is crate judging.
 #![tactic(auto)]
-

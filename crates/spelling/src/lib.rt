@@ -2,7 +2,6 @@
 // shares, as specs/Codes has them.
 #![tactic(auto)]
 
-
 pub mod words;
 
 // The fixed words.

@@ -1,0 +1,34 @@
+-- `groups::writing::write_front` meets its contract. Assumes nothing.
+use mathlib.Core.Path.{◌≡◌, ap, ◌∙◌}
+use native.Mathlib.Omega.{arith}
+use lib.ListN.{length, length-set}
+use Rattle.image.specs.Laid.{length_laid}
+use Rattle.groups.specs.Writes.{front_wrote}
+use Rattle.groups.proofs.writing.write_front.Lts as lts
+use Rattle.groups.proofs.writing.write_front.Tie as tie
+use Rattle.groups.proofs.writing.write_front.Reads as reads
+use Rattle.groups.proofs.writing.write_front.Goals as goal
+
+abbrev After-put_field : Type 0
+After-put_field = lts.After-put_field tie.the-claims reads.Pre reads.Post
+
+-- the room keeps its length
+after_high : (p : After-put_field) → length p.put_field.new.image ≡ length p.args.image.now
+after_high p = ap length p.put_field.ensures ∙ length_laid _ _ _ ∙ simp length-set
+
+pub put_field-requires : goal.put_field-requires
+put_field-requires c = simp length-set (omega arith)
+
+pub put_field-requires-2 : goal.put_field-requires-2
+put_field-requires-2 c = let p = c in omega (arith, after_high p.before.before.before, p.requires)
+
+pub shape_of-image : goal.shape_of-image
+shape_of-image c =
+    let q = c in
+    ap length q.put_field-2.ensures ∙ length_laid _ _ _ ∙ after_high q.before.before.before.before.before.before.before
+
+pub returns : goal.returns
+returns c =
+    let q = c in
+    let p = q in
+    front_wrote p.args.size p.put_field.ensures q.put_field-2.ensures

@@ -1,0 +1,13 @@
+-- `kept::find_in_rest` meets its contract: what is left of the kept sets decides.
+use Prim.Native.Nat.{◌+◌, ◌-◌, ◌≤◌}
+use mathlib.Core.Path.{◌≡◌}
+use lib.Seq.{slice}
+use Rattle.base.specs.Lists.{ahead}
+use Rattle.sets.specs.paper.Sets.{inside}
+use Rattle.kept.proofs.find_in_rest.Given as given
+
+abbrev pub invariant-loop-i : given.invariant-loop-i
+invariant-loop-i l = (l.i ≤ l.count) × (l.start + ahead (inside l.set) (slice l.start l.count l.kept) ≡ l.i + ahead (inside l.set) (slice l.i l.count l.kept))
+
+abbrev pub decreases-loop-i : given.decreases-loop-i
+decreases-loop-i l = l.count - l.i

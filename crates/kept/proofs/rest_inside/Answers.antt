@@ -1,0 +1,30 @@
+-- `kept::rest_inside` meets its contract: what is left of the kept sets decides the test of them all.
+-- Assumes nothing.
+use mathlib.Core.Path.{refl, sym, ◌∙◌}
+use native.Mathlib.Omega.{arith}
+use Rattle.sets.specs.paper.Sets.{inside}
+use Rattle.base.specs.Scans.{any_none, any_met, any_unmet}
+use Rattle.kept.proofs.rest_inside.Goals as goal
+
+pub loop-i-init : goal.loop-i-init
+loop-i-init c = (omega arith, refl)
+
+pub loop-i-preserved : goal.loop-i-preserved
+loop-i-preserved c =
+    let a = c.args in
+    let l = c.loop-i in (
+      omega arith,
+      l.invariant.1 ∙ any_unmet (λ k. inside k a.set) a.kept.now l.i a.count (omega arith) (omega arith) (sym c.is_inside.ensures ∙ c.if-is_inside.false),
+    )
+
+pub returns-then-i-count : goal.returns-then-i-count
+returns-then-i-count c =
+    let a = c.args in
+    let l = c.loop-i in
+    sym (l.invariant.1 ∙ any_none (λ k. inside k a.set) a.kept.now l.i a.count c.if-i-count.true)
+
+pub returns-then-is_inside : goal.returns-then-is_inside
+returns-then-is_inside c =
+    let a = c.args in
+    let l = c.loop-i in
+    sym (l.invariant.1 ∙ any_met (λ k. inside k a.set) a.kept.now l.i a.count (omega arith) (omega arith) (sym c.is_inside.ensures ∙ c.if-is_inside.true))

@@ -1,0 +1,13 @@
+-- `kept::rest_inside` meets its contract: what is left of the kept sets decides the test of them all.
+use Prim.Native.Nat.{◌-◌, ◌≤◌}
+use mathlib.Core.Path.{◌≡◌}
+use lib.Seq.{slice}
+use Rattle.base.specs.paper.Lists.{any}
+use Rattle.sets.specs.paper.Sets.{inside}
+use Rattle.kept.proofs.rest_inside.Given as given
+
+abbrev pub invariant-loop-i : given.invariant-loop-i
+invariant-loop-i l = (l.i ≤ l.count) × (any (λ k. inside k l.set) (slice l.start l.count l.kept) ≡ any (λ k. inside k l.set) (slice l.i l.count l.kept))
+
+abbrev pub decreases-loop-i : given.decreases-loop-i
+decreases-loop-i l = l.count - l.i
