@@ -19,6 +19,7 @@ use Rattle.loops.proofs.descends.Lts as lts
 use Rattle.loops.proofs.descends.Tie as tie
 use Rattle.loops.proofs.descends.Reads as reads
 use Rattle.loops.proofs.descends.Goals as goal
+use Rattle.loops.proofs.descends.Goals.{then-inside-end+else-names_marked, else-inside-end}
 
 abbrev After-field_at : Type 0
 After-field_at = lts.After-field_at tie.the-claims reads.Pre reads.Post goal.the-invariant-loop-i goal.the-decreases-loop-i
@@ -119,7 +120,7 @@ returns-then-names_marked c =
     let l = (m o.before.before).loop-i in
     descends_stop (s o.before.before) l.at ((m o.before.before).args.many - l.i) (omega arith) (marked l.heads) _ (long o.before.before) (added o.before.before)
     (tested o.before.before true c.if-names_marked.true)
-    ∙ l.inv.2
+    ∙ l.invariant.2
 
 -- the heads behind the record
 passed : (c : Joined1)
@@ -138,18 +139,23 @@ passed c =
     let same : (r : Marks) → c.if-inside-end.heads ≡ r
     → descends (clauses_at s (behind_record s l.at) (n - 1)) (marked c.if-inside-end.heads) ≡ descends (clauses_at s (behind_record s l.at) (n - 1)) (marked r) =
     λ r i. ap (λ (x : Marks). descends (clauses_at s (behind_record s l.at) (n - 1)) (marked x)) i in
-    ⊎_elim
-    (λ w.
-    let o : After-names_marked =
-    record {
-      before = record { before = record { before = record { before = record { before = m; if1 = w.0 }; field-at2 = w.1 }; with-mark = w.2 }; names-marked-arg = w.3 };
-      names_marked_lem = w.4;
-    } in
-    same _ w.6 ∙ descends_next s l.at n some (marked l.heads) _ (long o) (added o) (tested o false w.5.left))
-    (λ w.
-    let short = w.0.left in
-    same _ w.1 ∙ descends_fact s l.at n some (marked l.heads) (omega (arith, (lead m.before.before).long, m.field_at.ensures.0)))
-    c.if-inside-end.branch
+    elim c.if-inside-end.branch [
+      then-inside-end+else-names_marked w ↦
+          let o : After-names_marked = record {
+            before = record {
+              before = record {
+                before = record { before = record { before = c.before; if-inside-end = w.if-inside-end }; field_at-then-inside-end = w.field_at-then-inside-end };
+                with_mark-heads = w.with_mark-heads;
+              };
+              names_marked-arg-1 = w.names_marked-arg-1;
+            };
+            names_marked = w.names_marked;
+          } in
+          same _ w.heads-is ∙ descends_next s l.at n some (marked l.heads) _ (long o) (added o) (tested o false w.if-names_marked.false)
+      | else-inside-end w ↦
+          let short = w.if-inside-end.false in
+          same _ w.heads-is ∙ descends_fact s l.at n some (marked l.heads) (omega (arith, (lead c.before.before).long, m.field_at.ensures.0))
+    ]
 
 pub loop-i-preserved : goal.loop-i-preserved
 loop-i-preserved c =

@@ -20,6 +20,7 @@ use Rattle.loops.proofs.late.Lts as lts
 use Rattle.loops.proofs.late.Tie as tie
 use Rattle.loops.proofs.late.Reads as reads
 use Rattle.loops.proofs.late.Goals as goal
+use Rattle.loops.proofs.late.Goals.{then-inside-end+then-is_marked, then-inside-end+else-is_marked, else-inside-end}
 
 abbrev After-field_at : Type 0
 After-field_at = lts.After-field_at tie.the-claims reads.Pre reads.Post goal.the-invariant-loop-i goal.the-decreases-loop-i
@@ -143,30 +144,39 @@ passed c q =
     → late (clauses_at s (behind_record s l.at) (n - 1)) (marked c.if-inside-end.named) (marked c.if-inside-end.found) q
     ≡ late (clauses_at s (behind_record s l.at) (n - 1)) (marked x) (marked y) q =
     λ x y i j. ap₂ (λ (f g : Marks). late (clauses_at s (behind_record s l.at) (n - 1)) (marked f) (marked g) q) i j in
-    ⊎_elim
-    (λ w.
-    let o : After-is_marked =
-    record {
-      before = record { before = record { before = record { before = record { before = m; if1 = w.0 }; field-at2 = w.1 }; mark-body-arg = w.2 }; mark-body = w.3 };
-      is_marked_lem = w.4;
-    } in
-    same _ _ w.7 w.8
-    ∙ late_head s l.at n some (marked l.named) _ (marked l.found) (marked w.6.result) (named o) (long o) (tested o true w.5.taken)
-    (λ p. w.6.ensures p ∙ ap (λ (h : ℕ). eqb h p || marked l.found p) (sym (headed o.before.before.before))) q)
-    (⊎_elim
-    (λ w.
-    let o : After-is_marked =
-    record {
-      before = record { before = record { before = record { before = record { before = m; if1 = w.0 }; field-at2 = w.1 }; mark-body-arg = w.2 }; mark-body = w.3 };
-      is_marked_lem = w.4;
-    } in
-    same _ _ w.6 w.7
-    ∙ late_other s l.at n some (marked l.named) _ (marked l.found) (marked l.found) (named o) (long o) (tested o false w.5.left) (λ p. refl) q)
-    (λ w.
-    let short = w.0.left in
-    same _ _ w.1 w.2
-    ∙ late_fact s l.at n some (marked l.named) (marked l.found) (omega (arith, (lead m.before.before).long, m.field_at.ensures.0)) q))
-    c.if-inside-end.branch
+    elim c.if-inside-end.branch [
+      then-inside-end+then-is_marked w ↦
+          let o : After-is_marked = record {
+            before = record {
+              before = record {
+                before = record { before = record { before = c.before; if-inside-end = w.if-inside-end }; field_at-head = w.field_at-head };
+                mark_body-arg-1 = w.mark_body-arg-1;
+              };
+              mark_body-named = w.mark_body-named;
+            };
+            is_marked = w.is_marked;
+          } in
+          same _ _ w.named-is w.found-is
+          ∙ late_head s l.at n some (marked l.named) _ (marked l.found) (marked w.with_mark-found.result) (named o) (long o) (tested o true w.if-is_marked.true)
+          (λ p. w.with_mark-found.ensures p ∙ ap (λ (h : ℕ). eqb h p || marked l.found p) (sym (headed o.before.before.before))) q
+      | then-inside-end+else-is_marked w ↦
+          let o : After-is_marked = record {
+            before = record {
+              before = record {
+                before = record { before = record { before = c.before; if-inside-end = w.if-inside-end }; field_at-head = w.field_at-head };
+                mark_body-arg-1 = w.mark_body-arg-1;
+              };
+              mark_body-named = w.mark_body-named;
+            };
+            is_marked = w.is_marked;
+          } in
+          same _ _ w.named-is w.found-is
+          ∙ late_other s l.at n some (marked l.named) _ (marked l.found) (marked l.found) (named o) (long o) (tested o false w.if-is_marked.false) (λ p. refl) q
+      | else-inside-end w ↦
+          let short = w.if-inside-end.false in
+          same _ _ w.named-is w.found-is
+          ∙ late_fact s l.at n some (marked l.named) (marked l.found) (omega (arith, (lead c.before.before).long, m.field_at.ensures.0)) q
+    ]
 
 pub loop-i-preserved : goal.loop-i-preserved
 loop-i-preserved c =

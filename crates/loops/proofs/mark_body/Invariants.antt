@@ -12,10 +12,10 @@ use Rattle.loops.specs.Naming.{in_body, names}
 use Rattle.loops.proofs.mark_body.Given as given
 
 abbrev pub invariant-loop-at : given.invariant-loop-at
-invariant-loop-at l =
-    (l.at ≤ l.n)
-    × Every (λ (l : Lit). l.atom < limits.atoms) (lits_at l.part l.at ((l.n - l.at) / 2))
-    × ((q : ℕ) → (marked l.all q || in_body (lits_at l.part l.at ((l.n - l.at) / 2)) q) ≡ (marked l.initial.all q || names (clause_in l.part) q))
+invariant-loop-at v =
+    (v.at ≤ v.n)
+    × Every (λ (l : Lit). l.atom < limits.atoms) (lits_at v.part v.at ((v.n - v.at) / 2))
+    × ((q : ℕ) → (marked v.all q || in_body (lits_at v.part v.at ((v.n - v.at) / 2)) q) ≡ (marked v.initial.all q || names (clause_in v.part) q))
 
 abbrev pub decreases-loop-at : given.decreases-loop-at
 decreases-loop-at l = l.n - l.at

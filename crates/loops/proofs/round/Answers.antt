@@ -19,6 +19,7 @@ use Rattle.loops.proofs.round.Lts as lts
 use Rattle.loops.proofs.round.Tie as tie
 use Rattle.loops.proofs.round.Reads as reads
 use Rattle.loops.proofs.round.Goals as goal
+use Rattle.loops.proofs.round.Goals.{then-names_marked+then-is_marked, then-names_marked+else-is_marked, else-names_marked}
 
 abbrev After-field_at : Type 0
 After-field_at = lts.After-field_at tie.the-claims reads.Pre reads.Post goal.the-invariant-loop-i goal.the-decreases-loop-i
@@ -120,20 +121,21 @@ passed c q =
     λ x y i j. ap₂ (λ (f g : Marks). round (clauses_at s (behind_record s l.at) (n - 1)) held (marked f) (marked g) q) i j in
     let tested : (t : Bool) → b.names_marked.result ≡ t → names_marked (marked l.all) (clause_at s l.at) ≡ t =
     λ t is. ap (names_marked (marked l.all)) (sym (clause_part _ _ _ (lead m.before.before.before.before) (ends m.before.before.before))) ∙ sym b.names_marked.ensures ∙ is in
-    ⊎_elim
-    (λ w.
-    let head = headed (record { before = record { before = b; if1 = w.0 }; field-at2 = w.1 }) in
-    same _ _ w.5 w.6
-    ∙ round_held s l.at n some held (marked l.all) (marked l.left) (tested true w.0.taken) (ap held head ∙ sym w.2.ensures ∙ w.3.taken) (marked w.4.result)
-    (λ p. w.4.ensures p ∙ ap (λ (h : ℕ). eqb h p || marked l.left p) (sym head)) q)
-    (⊎_elim
-    (λ w.
-    let head = headed (record { before = record { before = b; if1 = w.0 }; field-at2 = w.1 }) in
-    same _ _ w.5 w.6
-    ∙ round_other s l.at n some held (marked l.all) (marked l.left) (tested true w.0.taken) (ap held head ∙ sym w.2.ensures ∙ w.3.left) (marked w.4.result)
-    (λ p. w.4.ensures p ∙ ap (λ (h : ℕ). eqb h p || marked l.all p) (sym head)) q)
-    (λ w. same _ _ w.1 w.2 ∙ round_pass s l.at n some held (marked l.all) (marked l.left) (tested false w.0.left) q))
-    c.if-names_marked.branch
+    elim c.if-names_marked.branch [
+      then-names_marked+then-is_marked w ↦
+          let head = headed (record { before = record { before = c.before; if-names_marked = w.if-names_marked }; field_at-head = w.field_at-head }) in
+          same _ _ w.all-is w.left-is
+          ∙ round_held s l.at n some held (marked l.all) (marked l.left) (tested true w.if-names_marked.true) (ap held head ∙ sym w.is_marked.ensures ∙ w.if-is_marked.true)
+          (marked w.with_mark-left.result)
+          (λ p. w.with_mark-left.ensures p ∙ ap (λ (h : ℕ). eqb h p || marked l.left p) (sym head)) q
+      | then-names_marked+else-is_marked w ↦
+          let head = headed (record { before = record { before = c.before; if-names_marked = w.if-names_marked }; field_at-head = w.field_at-head }) in
+          same _ _ w.all-is w.left-is
+          ∙ round_other s l.at n some held (marked l.all) (marked l.left) (tested true w.if-names_marked.true) (ap held head ∙ sym w.is_marked.ensures ∙ w.if-is_marked.false)
+          (marked w.with_mark-all.result)
+          (λ p. w.with_mark-all.ensures p ∙ ap (λ (h : ℕ). eqb h p || marked l.all p) (sym head)) q
+      | else-names_marked w ↦ same _ _ w.all-is w.left-is ∙ round_pass s l.at n some held (marked l.all) (marked l.left) (tested false w.if-names_marked.false) q
+    ]
 
 pub loop-i-preserved : goal.loop-i-preserved
 loop-i-preserved c =
@@ -147,7 +149,7 @@ loop-i-preserved c =
       omega arith,
       subst₂ (Recorded s) end left (recorded_next s l.at n l.invariant.1 (omega arith)),
       λ q.
-          ap₂ (λ (p k : ℕ). round (clauses_at s p k) (marked e.args.held) (marked c.if-names_marked.all) (marked c.if-names_marked.false) q) (sym end) (sym left)
+          ap₂ (λ (p k : ℕ). round (clauses_at s p k) (marked e.args.held) (marked c.if-names_marked.all) (marked c.if-names_marked.left) q) (sym end) (sym left)
           ∙ passed c.before q
           ∙ l.invariant.2 q,
     )

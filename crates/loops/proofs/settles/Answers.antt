@@ -14,18 +14,7 @@ use Rattle.loops.specs.Records.{Known}
 use Rattle.loops.specs.Naming.{unmarked}
 use Rattle.loops.specs.Order.{Late, late_late}
 use Rattle.loops.specs.Rounds.{Holding, holding_start, holding_next, answer_descends, answer_none, answer_same, answer_over}
-use Rattle.loops.proofs.settles.Lts as lts
-use Rattle.loops.proofs.settles.Tie as tie
-use Rattle.loops.proofs.settles.Reads as reads
 use Rattle.loops.proofs.settles.Goals as goal
-
-abbrev At-loop : Type 0
-At-loop = lts.At-loop tie.the-claims reads.Pre reads.Post goal.the-invariant-loop-i goal.the-decreases-loop-i
-
-known : (c : At-loop)
-    → (let e = c in
-    Known e.args.atoms (clauses_at e.args.image.now e.args.first e.args.many) × (1 ≤ e.args.atoms))
-known c = c.requires.known
 
 pub descends-requires : goal.descends-requires
 descends-requires c = c.requires.recorded
@@ -46,7 +35,7 @@ pub returns-then-is_none : goal.returns-then-is_none
 returns-then-is_none c =
     let m = c in
     let l = m in
-    answer_none _ _ (known l.before.before.before.before).0 l.loop-i.invariant.1 (m.is_none.ensures.0 c.if-is_none.true)
+    answer_none _ _ c.requires.known.0 l.loop-i.invariant.1 (m.is_none.ensures.0 c.if-is_none.true)
 
 pub round-left-requires : goal.round-left-requires
 round-left-requires c = c.requires.recorded
@@ -57,7 +46,7 @@ returns-then-same c =
     let n = m in
     let l = n in
     let all : m.round-left.result ≡ l.loop-i.held = c.same.ensures.0 c.if-same.true in
-    answer_same _ _ (known l.before.before.before.before.before.before.before).0 (known l.before.before.before.before.before.before.before).1 (marked l.loop-i.held) (marked m.round-left.result) m.round-left.ensures
+    answer_same _ _ c.requires.known.0 c.requires.known.1 (marked l.loop-i.held) (marked m.round-left.result) m.round-left.ensures
     (λ q. ap (λ (r : Marks). marked r q) all)
     (λ none. clash (n.is_none.ensures.1 none) m.if-is_none.false)
 
@@ -72,9 +61,9 @@ returns c =
     let e = l in
     let cs : List Clause = clauses_at e.args.image.now e.args.first e.args.many in
     let over : l.loop-i.i ≡ e.args.atoms = omega arith in
-    ⊎_elim (λ t. t ∙ answer_none _ _ (known l.before.before.before).0 l.loop-i.invariant.1 (c.is_none-2.ensures.0 t))
+    ⊎_elim (λ t. t ∙ answer_none _ _ c.requires.known.0 l.loop-i.invariant.1 (c.is_none-2.ensures.0 t))
     (λ t.
     t
-    ∙ answer_over _ _ (known l.before.before.before).0 (known l.before.before.before).1 (subst (Holding cs (marked l.late-held.result) (marked l.loop-i.held)) over l.loop-i.invariant.1)
+    ∙ answer_over _ _ c.requires.known.0 c.requires.known.1 (subst (Holding cs (marked l.late-held.result) (marked l.loop-i.held)) over l.loop-i.invariant.1)
     (λ none. clash (c.is_none-2.ensures.1 none) t))
     (decide c.is_none-2.result)
