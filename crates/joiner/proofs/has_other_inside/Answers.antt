@@ -5,14 +5,18 @@ use mathlib.Core.Bool.{Bool, false, ◌||◌}
 use mathlib.Core.List.{List, ◌++◌}
 use Prim.Native.Nat.{ℕ}
 use native.Mathlib.Omega.{arith}
-use borrow.Author.Rules.{rules}
 use lib.ListN.{length, take}
 use lib.Seq.{take_all}
 use Rattle.base.specs.paper.Lists.{any}
 use Rattle.base.specs.Lists.{any_append}
 use Rattle.sets.specs.paper.Sets.{inside}
-use Rattle.joiner.proofs.has_other_inside.Statement.{statement}
+use Rattle.joiner.proofs.has_other_inside.Lts as lts
 use Rattle.joiner.proofs.has_other_inside.Tie as tie
+use Rattle.joiner.proofs.has_other_inside.Reads as reads
+use Rattle.joiner.proofs.has_other_inside.Goals as goal
+
+abbrev Else1 : Type 0
+Else1 = lts.Else1 tie.the-claims reads.Pre reads.Post
 
 parts : (t : ℕ → Bool) (k l m : List ℕ) → any t (k ++ (l ++ m)) ≡ (any t k || (any t (take (length l) l) || any t (take (length m) m)))
 parts t k l m =
@@ -20,39 +24,28 @@ parts t k l m =
     ∙ ap (λ (b : Bool). any t k || b)
     (any_append t l m ∙ rw (take_all (length l) l (omega arith), take_all (length m) m (omega arith)))
 
-returns : tie.Need-returns
-returns c =
-    let a = c.before.before.before.before.before.args in
+pub returns-then-has_inside : goal.returns-then-has_inside
+returns-then-has_inside c =
+    let a = c.args in
     sym
     (parts (λ k. inside k a.set) (take a.count a.kept.now) a.later.now a.behind.now
-    ∙ rw (sym c.before.has_inside.ensures ∙ c.if1.true))
+    ∙ rw (sym c.has_inside.ensures ∙ c.if-has_inside.true))
 
 -- none of the kept sets is inside
-not_kept : (c : tie.Else1) → let a = c.before.before.before.before.before.args in any (λ k. inside k a.set) (take a.count a.kept.now) ≡ false
-not_kept c = sym c.before.has_inside.ensures ∙ c.if1.false
+not_kept : (c : Else1) → let a = c.args in any (λ k. inside k a.set) (take a.count a.kept.now) ≡ false
+not_kept c = sym c.has_inside.ensures ∙ c.if-has_inside.false
 
-returns-2 : tie.Need-returns-2
-returns-2 c =
-    let a = c.before.before.before.before.before.before.before.args in
+pub returns-then-has_inside-2 : goal.returns-then-has_inside-2
+returns-then-has_inside-2 c =
+    let a = c.args in
     sym
     (parts (λ k. inside k a.set) (take a.count a.kept.now) a.later.now a.behind.now
-    ∙ rw (not_kept c.before.before, sym c.before.has-inside2.ensures ∙ c.if2.true))
+    ∙ rw (not_kept c.before.before.before, sym c.has_inside-2.ensures ∙ c.if-has_inside-2.true))
 
-returns-3 : tie.Need-returns-3
-returns-3 c =
-    let a = c.before.before.before.before.before.before.before.before.args in
-    c.has-inside3.ensures
+pub returns : goal.returns
+returns c =
+    let a = c.args in
+    c.has_inside-3.ensures
     ∙ sym
     (parts (λ k. inside k a.set) (take a.count a.kept.now) a.later.now a.behind.now
-    ∙ rw (not_kept c.before.before.before, sym c.before.before.has-inside2.ensures ∙ c.before.if2.false))
-
-pub has_other_inside_spec : {M : Type 1} → statement M
-has_other_inside_spec =
-    tie.close
-    (tie.spec
-    (λ c κs. search rules)
-    returns
-    (λ c κs. search rules)
-    returns-2
-    (λ c κs. search rules)
-    returns-3)
+    ∙ rw (not_kept c.before.before.before.before, sym c.has_inside-2.ensures ∙ c.if-has_inside-2.false))
