@@ -7,7 +7,7 @@ pub returns-then-size-gt-LONGEST_NAME : goal.returns-then-size-gt-LONGEST_NAME
 returns-then-size-gt-LONGEST_NAME c = sym (code_long _ _ c.if-size-gt-LONGEST_NAME.true)
 
 pub returns-then-is_within : goal.returns-then-is_within
-returns-then-is_within c = sym (code_small _ _ c.if-size-gt-LONGEST_NAME.false (sym c.before.is_within.ensures ∙ c.if-is_within.true))
+returns-then-is_within c = sym (code_small _ _ c.if-size-gt-LONGEST_NAME.false (sym c.is_within.ensures ∙ c.if-is_within.true))
 
 pub returns : goal.returns
-returns c = sym (code_other _ _ c.if-size-gt-LONGEST_NAME.false (sym c.before.is_within.ensures ∙ c.if-is_within.false))
+returns c = sym (code_other _ _ c.if-size-gt-LONGEST_NAME.false (sym c.is_within.ensures ∙ c.if-is_within.false))

@@ -12,7 +12,8 @@ hash_on-hash-requires c = c.loop-i.invariant.bounded
 
 pub loop-i-preserved-then-is_within : goal.loop-i-preserved-then-is_within
 loop-i-preserved-then-is_within c =
-    running_more _ _ _ _ c.loop-i.invariant _ c.loop-i-test.true (name_small _ (sym c.before.before.is_within.ensures ∙ c.if-is_within.true)) c.hash_on-hash.ensures.0 c.hash_on-hash.ensures.1
+    running_more _ _ _ _ c.loop-i.invariant _ c.loop-i-test.true (name_small _ (sym c.is_within.ensures ∙ c.if-is_within.true))
+    c.hash_on-hash.ensures.0 c.hash_on-hash.ensures.1
 
 pub returns-then-not-in_name : goal.returns-then-not-in_name
 returns-then-not-in_name c = run_met _ _ _ _ c.loop-i.invariant c.loop-i-test.true (sym c.in_name.ensures ∙ c.if-not-in_name.true)
@@ -22,7 +23,8 @@ hash_on-hash-requires-else-is_within c = c.loop-i.invariant.bounded
 
 pub loop-i-preserved : goal.loop-i-preserved
 loop-i-preserved c =
-    running_more _ _ _ _ c.loop-i.invariant _ c.loop-i-test.true (sym c.in_name.ensures ∙ c.if-not-in_name.false) c.hash_on-hash-else-is_within.ensures.0 c.hash_on-hash-else-is_within.ensures.1
+    running_more _ _ _ _ c.loop-i.invariant _ c.loop-i-test.true (sym c.in_name.ensures ∙ c.if-not-in_name.false)
+    c.hash_on-hash-else-is_within.ensures.0 c.hash_on-hash-else-is_within.ensures.1
 
 pub returns : goal.returns
 returns c = run_over _ _ _ _ c.loop-i.invariant c.loop-i-test.false

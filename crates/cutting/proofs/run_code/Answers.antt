@@ -17,11 +17,6 @@ returns-then-is_run-4 c = naf_run _ (sym c.is_run-4.ensures ∙ c.if-is_run-4.tr
 
 pub returns : goal.returns
 returns c =
-    let fourth = c in
-    let third = fourth in
-    let second = third in
-    let first = second in
-    let start = first in
-    let none = not_bare _ (sym first.is_run.ensures ∙ first.if-is_run.false) (sym second.is_run-2.ensures ∙ second.if-is_run-2.false)
-    (sym third.is_run-3.ensures ∙ third.if-is_run-3.false) (sym fourth.is_run-4.ensures ∙ fourth.if-is_run-4.false) in
-    c.name_code.ensures ∙ run_coded start.args.text.now start.args.at start.args.end start.requires.0 start.requires.1 start.requires.2 none
+    let none = not_bare _ (sym c.is_run.ensures ∙ c.if-is_run.false) (sym c.is_run-2.ensures ∙ c.if-is_run-2.false)
+    (sym c.is_run-3.ensures ∙ c.if-is_run-3.false) (sym c.is_run-4.ensures ∙ c.if-is_run-4.false) in
+    c.name_code.ensures ∙ run_coded c.args.text.now c.args.at c.args.end c.requires.0 c.requires.1 c.requires.2 none

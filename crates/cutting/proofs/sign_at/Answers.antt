@@ -26,19 +26,12 @@ returns-then-begins-7 c = fixed_off _ _ query_fixed (sym c.begins-7.ensures ∙ 
 
 pub returns : goal.returns
 returns c =
-    let seventh = c in
-    let sixth = seventh in
-    let fifth = sixth in
-    let fourth = fifth in
-    let third = fourth in
-    let second = third in
-    let first = second in
-    let pre = first.requires in
-    other_off _ _ pre.0 pre.2 (sym first.begins.ensures ∙ first.if-begins.false)
-    (sym second.begins-2.ensures ∙ second.if-begins-2.false)
-    (sym third.begins-3.ensures ∙ third.if-begins-3.false)
-    (sym fourth.begins-4.ensures ∙ fourth.if-begins-4.false)
-    (sym fifth.begins-5.ensures ∙ fifth.if-begins-5.false)
-    (sym sixth.begins-6.ensures ∙ sixth.if-begins-6.false)
-    (sym seventh.begins-7.ensures ∙ seventh.if-begins-7.false)
+    let pre = c.requires in
+    other_off _ _ pre.0 pre.2 (sym c.begins.ensures ∙ c.if-begins.false)
+    (sym c.begins-2.ensures ∙ c.if-begins-2.false)
+    (sym c.begins-3.ensures ∙ c.if-begins-3.false)
+    (sym c.begins-4.ensures ∙ c.if-begins-4.false)
+    (sym c.begins-5.ensures ∙ c.if-begins-5.false)
+    (sym c.begins-6.ensures ∙ c.if-begins-6.false)
+    (sym c.begins-7.ensures ∙ c.if-begins-7.false)
     c.fixed-2.ensures

@@ -16,12 +16,11 @@ sign_at-requires c =
 
 pub returns-then-end-at-gt5 : goal.returns-then-end-at-gt5
 returns-then-end-at-gt5 c =
-    let ran = c in
-    let args = ran.args in
-    let run = ran.run_at-run.ensures in
+    let args = c.args in
+    let run = c.run_at-run.ensures in
     let none = long_bare (name_at args.text.now args.at) (omega arith) in
     bare_off run (omega arith) none
-    (c.name_code.ensures ∙ run_coded args.text.now args.at ran.run_at-run.result.end (omega arith) run.within run.long none)
+    (c.name_code.ensures ∙ run_coded args.text.now args.at c.run_at-run.result.end (omega arith) run.within run.long none)
 
 pub returns-then-begins : goal.returns-then-begins
 returns-then-begins c = fixed_off _ _ abd_fixed (sym c.begins.ensures ∙ c.if-begins.true) c.fixed.ensures
@@ -31,8 +30,5 @@ returns-then-begins-2 c = fixed_off _ _ naf_fixed (sym c.begins-2.ensures ∙ c.
 
 pub returns : goal.returns
 returns c =
-    let no-naf = c in
-    let no-abd = no-naf.before.before.before in
-    let ran = no-abd.before.before.before.before.before in
-    unopened_off ran.run_at-run.ensures (omega arith) (sym no-abd.begins.ensures ∙ no-abd.if-begins.false)
-    (sym no-naf.begins-2.ensures ∙ no-naf.if-begins-2.false) c.run_code.ensures
+    unopened_off c.run_at-run.ensures (omega arith) (sym c.begins.ensures ∙ c.if-begins.false)
+    (sym c.begins-2.ensures ∙ c.if-begins-2.false) c.run_code.ensures

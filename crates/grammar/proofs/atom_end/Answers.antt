@@ -8,8 +8,7 @@ use Rattle.grammar.proofs.atom_end.Goals as goal
 
 pub overflow_add-at : goal.overflow_add-at
 overflow_add-at c =
-    let start = c in
-    let here = word_among start.args.codes.now abd_code start.args.at (omega arith) (sym c.code_at.ensures ∙ c.if-code_at-eq-ABD.true) in
+    let here = word_among c.args.codes.now abd_code c.args.at (omega arith) (sym c.code_at.ensures ∙ c.if-code_at-eq-ABD.true) in
     omega arith
 
 pub returns-then-code_at-eq-ABD : goal.returns-then-code_at-eq-ABD

@@ -10,8 +10,7 @@ returns-then-code_at-ne-QUERY c = sym (no_query _ _ (λ e. c.if-code_at-ne-QUERY
 
 pub overflow_add-at : goal.overflow_add-at
 overflow_add-at c =
-    let start = c in
-    let here = word_among start.args.codes.now query_code start.args.at (omega arith) (sym c.code_at.ensures ∙ c.if-code_at-ne-QUERY.false) in
+    let here = word_among c.args.codes.now query_code c.args.at (omega arith) (sym c.code_at.ensures ∙ c.if-code_at-ne-QUERY.false) in
     omega arith
 
 pub returns-then-code_at-ne-DOT : goal.returns-then-code_at-ne-DOT

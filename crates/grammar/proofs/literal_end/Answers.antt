@@ -8,8 +8,7 @@ use Rattle.grammar.proofs.literal_end.Goals as goal
 
 pub overflow_add-at : goal.overflow_add-at
 overflow_add-at c =
-    let start = c in
-    let here = word_among start.args.codes.now naf_code start.args.at (omega arith) (sym c.code_at.ensures ∙ c.if-code_at-eq-NAF.true) in
+    let here = word_among c.args.codes.now naf_code c.args.at (omega arith) (sym c.code_at.ensures ∙ c.if-code_at-eq-NAF.true) in
     omega arith
 
 pub returns-then-code_at-eq-NAF : goal.returns-then-code_at-eq-NAF

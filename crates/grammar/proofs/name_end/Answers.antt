@@ -7,8 +7,7 @@ use Rattle.grammar.proofs.name_end.Goals as goal
 
 pub overflow_add-result : goal.overflow_add-result
 overflow_add-result c =
-    let start = c in
-    let here = among start.args.codes.now start.args.at (λ o. omega (arith, o)) in
+    let here = among c.args.codes.now c.args.at (λ o. omega (arith, o)) in
     omega arith
 
 pub returns-then-code_at-ge-NAMES : goal.returns-then-code_at-ge-NAMES

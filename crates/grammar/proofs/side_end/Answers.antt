@@ -8,8 +8,7 @@ use Rattle.grammar.proofs.side_end.Goals as goal
 
 pub overflow_add-result : goal.overflow_add-result
 overflow_add-result c =
-    let start = c in
-    let here = word_among start.args.codes.now true_code start.args.at (omega arith) (sym c.code_at.ensures ∙ c.if-code_at-eq-TRUE.true) in
+    let here = word_among c.args.codes.now true_code c.args.at (omega arith) (sym c.code_at.ensures ∙ c.if-code_at-eq-TRUE.true) in
     omega arith
 
 pub returns-then-code_at-eq-TRUE : goal.returns-then-code_at-eq-TRUE

@@ -22,27 +22,24 @@ overflow_add-head c =
 pub returns-then-next-eq-DOT : goal.returns-then-next-eq-DOT
 unfolding statement_end
 returns-then-next-eq-DOT c =
-    let start = c in
     sym (stood _ _ _ _ _ (sym c.code_at-next.ensures ∙ c.if-next-eq-DOT.true))
-    ∙ ap (λ (head : ℕ). from_head start.args.codes.now head start.args.at) c.atom_end-head.ensures
+    ∙ ap (λ (head : ℕ). from_head c.args.codes.now head c.args.at) c.atom_end-head.ensures
 
 pub returns-then-next-eq-NECK : goal.returns-then-next-eq-NECK
 unfolding statement_end body_end
 returns-then-next-eq-NECK c =
-    let start = c in
     let next = c.code_at-next.ensures in
     c.word_end.ensures
-    ∙ ap (word_end start.args.codes.now dot_code) c.literals_end.ensures
+    ∙ ap (word_end c.args.codes.now dot_code) c.literals_end.ensures
     ∙ sym (stood _ _ _ _ _ (sym next ∙ c.if-next-eq-NECK.true))
     ∙ sym (astray _ _ _ _ _ (λ e. c.if-next-eq-DOT.false (next ∙ e)))
-    ∙ ap (λ (head : ℕ). from_head start.args.codes.now head start.args.at) c.atom_end-head.ensures
+    ∙ ap (λ (head : ℕ). from_head c.args.codes.now head c.args.at) c.atom_end-head.ensures
 
 pub returns-else-next-eq-NECK : goal.returns-else-next-eq-NECK
 unfolding statement_end
 returns-else-next-eq-NECK c =
-    let start = c in
     let next = c.code_at-next.ensures in
     c.constraint_end.ensures
     ∙ sym (astray _ _ _ _ _ (λ e. c.if-next-eq-NECK.false (next ∙ e)))
     ∙ sym (astray _ _ _ _ _ (λ e. c.if-next-eq-DOT.false (next ∙ e)))
-    ∙ ap (λ (head : ℕ). from_head start.args.codes.now head start.args.at) c.atom_end-head.ensures
+    ∙ ap (λ (head : ℕ). from_head c.args.codes.now head c.args.at) c.atom_end-head.ensures

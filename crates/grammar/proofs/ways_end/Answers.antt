@@ -20,7 +20,8 @@ overflow_add-at c =
 pub loop-at-smaller : goal.loop-at-smaller
 loop-at-smaller c =
     let codes = c.args.codes.now in
-    let less = onward_less codes semicolon_code (literals_end codes) (omega arith) (literals_forward codes) c.loop-at.at (sym c.code_at.ensures ∙ c.loop-at-test.true) in
+    let less = onward_less codes semicolon_code (literals_end codes) (omega arith) (literals_forward codes) c.loop-at.at
+    (sym c.code_at.ensures ∙ c.loop-at-test.true) in
     omega (arith, c.literals_end-at-in-loop-at.ensures)
 
 pub loop-at-preserved : goal.loop-at-preserved

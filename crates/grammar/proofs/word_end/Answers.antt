@@ -7,8 +7,7 @@ use Rattle.grammar.proofs.word_end.Goals as goal
 
 pub overflow_add-result : goal.overflow_add-result
 overflow_add-result c =
-    let start = c in
-    let here = word_among start.args.codes.now start.args.word start.args.at start.requires (sym c.code_at.ensures ∙ c.if-code_at-word.true) in
+    let here = word_among c.args.codes.now c.args.word c.args.at c.requires (sym c.code_at.ensures ∙ c.if-code_at-word.true) in
     omega arith
 
 pub returns-then-code_at-word : goal.returns-then-code_at-word

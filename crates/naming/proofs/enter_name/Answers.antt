@@ -11,9 +11,8 @@ overflow_add-entries c = omega (arith, c.bit.ensures, bit_most c.args.marked)
 
 pub returns : goal.returns
 returns c =
-    let e = c in
     record {
-      entry = ap (λ (b : ℕ). set e.args.entries.now e.args.count (2 * e.args.at + b)) c.bit.ensures;
+      entry = ap (λ (b : ℕ). set c.args.entries.now c.args.count (2 * c.args.at + b)) c.bit.ensures;
       back = refl;
       last = refl;
     }

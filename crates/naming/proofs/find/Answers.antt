@@ -24,12 +24,12 @@ In-loop = lts.In-loop tie.the-claims reads.Pre reads.Post goal.the-invariant-loo
 
 -- what is known of some table, for what the code may do
 passing : (m : In-loop)
-    → (let e = m in Passed e.requires.chained.0 (name_at e.args.text.now e.args.at) m.loop-place.place)
-passing m = let e = m in m.loop-place.invariant e.requires.chained.0 e.requires.chained.1
+    → (Passed m.requires.chained.0 (name_at m.args.text.now m.args.at) m.loop-place.place)
+passing m = m.loop-place.invariant m.requires.chained.0 m.requires.chained.1
 
 entry : (m : In-loop)
-    → (let e = m in m.loop-place.place ≤ e.args.at)
-entry m = let e = m in omega (arith, (passing m).within, e.requires.chained.1.few)
+    → (m.loop-place.place ≤ m.args.at)
+entry m = omega (arith, (passing m).within, m.requires.chained.1.few)
 
 -- the name of an entry that was looked at
 told : (m : After-same_name) (table : List Atom)
@@ -38,41 +38,36 @@ told : (m : After-same_name) (table : List Atom)
     Chained e.args.text.now e.args.entries.now e.args.earlier.now e.args.latest.now table e.args.at
     → same (name_at e.args.text.now e.args.at) (name_in table i) ≡ m.same_name.result)
 told m table d =
-    let e = m in
     let l = m.loop-place in
-    ap (same (name_at e.args.text.now e.args.at)) (sym (d.placed (l.place - 1) (omega (arith, (l.invariant table d).within, m.loop-place-test.true))).name)
+    ap (same (name_at m.args.text.now m.args.at)) (sym (d.placed (l.place - 1) (omega (arith, (l.invariant table d).within, m.loop-place-test.true))).name)
     ∙ sym m.same_name.ensures
 
 -- the entry stands before the name that is sought
 before : (m : In-loop)
-    → (let e = m in get_or e.args.entries.now (m.loop-place.place - 1) 0 / 2 < e.args.at)
-before m = let e = m in e.requires.chained.1.before (m.loop-place.place - 1) (omega (arith, (passing m).within, m.loop-place-test.true))
+    → (get_or m.args.entries.now (m.loop-place.place - 1) 0 / 2 < m.args.at)
+before m = m.requires.chained.1.before (m.loop-place.place - 1) (omega (arith, (passing m).within, m.loop-place-test.true))
 
 next : (c : Else1) (table : List Atom)
     → (let e = c in
     Chained e.args.text.now e.args.entries.now e.args.earlier.now e.args.latest.now table e.args.at
     → Passed table (name_at e.args.text.now e.args.at) (get_or e.args.earlier.now (c.loop-place.place - 1) 0))
 next c table d =
-    let m = c in
-    let l = m.loop-place in
-    passed_next d _ l.place m.loop-place-test.true (l.invariant table d) (told m.before table d ∙ c.if-same_name.false)
+    let l = c.loop-place in
+    passed_next d _ l.place c.loop-place-test.true (l.invariant table d) (told c.before table d ∙ c.if-same_name.false)
 
 falls : (c : Else1)
     → (let e = c in
     get_or e.args.earlier.now (c.loop-place.place - 1) 0 < c.loop-place.place)
 falls c =
-    let e = c in
-    let m = c in
-    let i : ℕ = m.loop-place.place - 1 in
-    omega (arith, (e.requires.chained.1.back i (omega (arith, (passing m.before.before.before.before).within, m.loop-place-test.true))).within, m.loop-place-test.true)
+    let i : ℕ = c.loop-place.place - 1 in
+    omega (arith, (c.requires.chained.1.back i (omega (arith, (passing c.before.before.before.before).within, c.loop-place-test.true))).within, c.loop-place-test.true)
 
 pub overflow_cast-place : goal.overflow_cast-place
 overflow_cast-place c =
-    let e = c in
-    omega (arith, (passed_start e.requires.chained.1 _ e.args.hash e.requires.sought.hashed e.requires.sought.bucket).within, e.requires.chained.1.few)
+    omega (arith, (passed_start c.requires.chained.1 _ c.args.hash c.requires.sought.hashed c.requires.sought.bucket).within, c.requires.chained.1.few)
 
 pub loop-place-init : goal.loop-place-init
-loop-place-init c = λ table d. let e = c in passed_start d _ e.args.hash e.requires.sought.hashed e.requires.sought.bucket
+loop-place-init c = λ table d. passed_start d _ c.args.hash c.requires.sought.hashed c.requires.sought.bucket
 
 pub offset_bounds-entries-i : goal.offset_bounds-entries-i
 offset_bounds-entries-i c = omega (arith, entry c.before)
@@ -89,9 +84,8 @@ same_name-requires c = (c.requires.sought.name, before c.before.before.before)
 pub returns-then-same_name : goal.returns-then-same_name
 returns-then-same_name c =
     λ table d.
-    let m = c in
-    let l = m.loop-place in
-    found d _ l.place m.loop-place-test.true (l.invariant table d) (told m.before.before table d ∙ c.if-same_name.true)
+    let l = c.loop-place in
+    found d _ l.place c.loop-place-test.true (l.invariant table d) (told c.before.before table d ∙ c.if-same_name.true)
 
 pub offset_bounds-earlier-i : goal.offset_bounds-earlier-i
 offset_bounds-earlier-i c = omega (arith, entry c.before.before.before.before.before)

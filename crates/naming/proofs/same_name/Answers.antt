@@ -9,27 +9,23 @@ loop-i-init c = (omega arith, refl)
 
 pub four_same-requires : goal.four_same-requires
 four_same-requires c =
-    let e = c in
-    let fits = e.requires.0.within in
-    (omega (arith, fits, c.loop-i-test.true), omega (arith, fits, c.loop-i-test.true, e.requires.1))
+    let fits = c.requires.0.within in
+    (omega (arith, fits, c.loop-i-test.true), omega (arith, fits, c.loop-i-test.true, c.requires.1))
 
 pub returns-then-not-four_same : goal.returns-then-not-four_same
 returns-then-not-four_same c =
-    let e = c in
     sym
-    (four_other e.requires.0 e.args.there e.requires.1 c.loop-i.i c.loop-i-test.true
+    (four_other c.requires.0 c.args.there c.requires.1 c.loop-i.i c.loop-i-test.true
     (subst (FourSame _ _ _) c.if-not-four_same.true c.four_same.ensures))
 
 pub loop-i-preserved : goal.loop-i-preserved
 loop-i-preserved c =
-    let e = c in
-    four_more e.requires.0 e.args.there e.requires.1 c.loop-i.i c.loop-i-test.true
+    four_more c.requires.0 c.args.there c.requires.1 c.loop-i.i c.loop-i-test.true
     (subst (FourSame _ _ _) c.if-not-four_same.false c.four_same.ensures) c.loop-i.invariant
 
 pub rest_same-requires : goal.rest_same-requires
 rest_same-requires c =
-    let e = c in
-    (e.requires.0, e.requires.1, c.loop-i.invariant)
+    (c.requires.0, c.requires.1, c.loop-i.invariant)
 
 pub returns : goal.returns
 returns c = c.rest_same.ensures

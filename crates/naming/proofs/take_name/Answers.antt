@@ -16,16 +16,14 @@ After-find = lts.After-find tie.the-claims reads.Pre reads.Post tie.handed_claus
 
 pub overflow_add-result-then-place-eq0-2 : goal.overflow_add-result-then-place-eq0-2
 overflow_add-result-then-place-eq0-2 c =
-    let e = c in
-    let d = e.requires.listed.1 in
-    omega (arith, c.bit.ensures, bit_most e.args.marked, d.marked, filter_length is_marked e.requires.listed.0, d.chained.few)
+    let d = c.requires.listed.1 in
+    omega (arith, c.bit.ensures, bit_most c.args.marked, d.marked, filter_length is_marked c.requires.listed.0, d.chained.few)
 
 -- the place that was found is in the table
 found : (m : After-find) → m.find-place.result ≤ m.args.at
 found m =
-    let e = m in
-    let d = e.requires.listed.1.chained in
-    omega (arith, m.find-place.ensures e.requires.listed.0 d, place_most e.requires.listed.0 (name_at e.args.text.now e.args.at), d.few)
+    let d = m.requires.listed.1.chained in
+    omega (arith, m.find-place.ensures m.requires.listed.0 d, place_most m.requires.listed.0 (name_at m.args.text.now m.args.at), d.few)
 
 pub overflow_cast-result-else-place-eq0 : goal.overflow_cast-result-else-place-eq0
 overflow_cast-result-else-place-eq0 c = omega (arith, found c.before.before)
@@ -42,13 +40,10 @@ bounds-entries-i c = omega (arith, found c.before.before.before)
 pub returns-then-place-eq0 : goal.returns-then-place-eq0
 returns-then-place-eq0 c =
     λ table d.
-    let e = c in
     let none : c.find-place.result ≡ 0 = omega arith in
-    met_new e.requires.sought d e.args.marked c.bit.ensures (sym none ∙ c.find-place.ensures table d.chained) c.enter_name.ensures
+    met_new c.requires.sought d c.args.marked c.bit.ensures (sym none ∙ c.find-place.ensures table d.chained) c.enter_name.ensures
 
 pub returns-else-place-eq0 : goal.returns-else-place-eq0
 returns-else-place-eq0 c =
     λ table d.
-    let e = c in
-    let f = c in
-    met_known e.requires.sought d e.args.marked c.bit-else-place-eq0.ensures f.find-place.result (f.find-place.ensures table d.chained) c.if-place-eq0.false
+    met_known c.requires.sought d c.args.marked c.bit-else-place-eq0.ensures c.find-place.result (c.find-place.ensures table d.chained) c.if-place-eq0.false

@@ -18,9 +18,8 @@ named m = code_name _ (sym m.word_at-cut.ensures.code ∙ m.if-cut-eq-NAMES.true
 
 pub take_name-name-requires : goal.take_name-name-requires
 take_name-name-requires c =
-    let e = c in
     let w = c.word_at-cut in
-    record { sought = sought w.ensures e.requires.at_in_bounds.1 (named c.before.before.before.before.before); listed = e.requires.listed }
+    record { sought = sought w.ensures c.requires.at_in_bounds.1 (named c.before.before.before.before.before); listed = c.requires.listed }
 
 pub returns-then-cut-eq-NAMES : goal.returns-then-cut-eq-NAMES
 returns-then-cut-eq-NAMES c =

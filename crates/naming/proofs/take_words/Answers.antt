@@ -8,9 +8,8 @@ loop-at-init c = taking_none c.requires c.blanks_end-at.ensures
 
 pub take_word-word-requires : goal.take_word-word-requires
 take_word-word-requires c =
-    let e = c in
     let l = c.loop-at in
-    record { at_in_bounds = (c.loop-at-test.true, e.requires.short); listed = (l.invariant.table, l.invariant.listed) }
+    record { at_in_bounds = (c.loop-at-test.true, c.requires.short); listed = (l.invariant.table, l.invariant.listed) }
 
 pub offset_bounds-codes-words : goal.offset_bounds-codes-words
 offset_bounds-codes-words c = omega (arith, c.loop-at.invariant.short)
@@ -29,10 +28,9 @@ loop-at-smaller c = omega (arith, c.blanks_end-at-in-loop-at.ensures.ahead, c.ta
 
 pub loop-at-preserved : goal.loop-at-preserved
 loop-at-preserved c =
-    let e = c in
     let l = c.loop-at in
     let w = c.take_word-word in
-    taking_more l.invariant c.loop-at-test.true e.requires.short w.ensures.past c.blanks_end-at-in-loop-at.ensures (w.ensures.taken l.invariant.table l.invariant.listed)
+    taking_more l.invariant c.loop-at-test.true c.requires.short w.ensures.past c.blanks_end-at-in-loop-at.ensures (w.ensures.taken l.invariant.table l.invariant.listed)
 
 pub returns : goal.returns
 returns c = taking_all c.loop-at.invariant (omega arith)

@@ -14,7 +14,8 @@ use Rattle.text.proofs.make.Goals as goal
 
 pub returns-then-text-gt-LONGEST_TEXT : goal.returns-then-text-gt-LONGEST_TEXT
 returns-then-text-gt-LONGEST_TEXT c =
-    made_told c.refused.ensures (made_refused _ 50 (c.requires.1, c.requires.0) (λ z. omega (arith, z)) (λ what room. too_long what _ room c.if-text-gt-LONGEST_TEXT.true))
+    made_told c.refused.ensures
+    (made_refused _ 50 (c.requires.1, c.requires.0) (λ z. omega (arith, z)) (λ what room. too_long what _ room c.if-text-gt-LONGEST_TEXT.true))
 
 pub take_words-words-requires : goal.take_words-words-requires
 take_words-words-requires c =
@@ -32,11 +33,13 @@ slice_bounds-goal_place-end c =
 
 pub returns-then-goal-eq0 : goal.returns-then-goal-eq0
 returns-then-goal-eq0 c =
-    made_told c.refused-then-goal-eq0.ensures (drafted_malformed c.if-text-gt-LONGEST_TEXT.false c.take_words-words.ensures c.goal_place-goal.ensures c.if-goal-eq0.true c.requires.1)
+    made_told c.refused-then-goal-eq0.ensures
+    (drafted_malformed c.if-text-gt-LONGEST_TEXT.false c.take_words-words.ensures c.goal_place-goal.ensures c.if-goal-eq0.true c.requires.1)
 
 pub returns-then-words : goal.returns-then-words
 returns-then-words c =
-    made_told c.refused-then-words.ensures (drafted_clash c.if-text-gt-LONGEST_TEXT.false c.take_words-words.ensures c.goal_place-goal.ensures c.if-goal-eq0.false c.if-words.true c.requires.1)
+    made_told c.refused-then-words.ensures
+    (drafted_clash c.if-text-gt-LONGEST_TEXT.false c.take_words-words.ensures c.goal_place-goal.ensures c.if-goal-eq0.false c.if-words.true c.requires.1)
 
 pub give_numbers-requires : goal.give_numbers-requires
 give_numbers-requires c =
@@ -56,18 +59,25 @@ write_image-size-requires c =
 
 pub slice_bounds-read-end : goal.slice_bounds-read-end
 slice_bounds-read-end c =
-    drafted_within (drafted c.if-text-gt-LONGEST_TEXT.false c.take_words-words.ensures c.goal_place-goal.ensures c.if-goal-eq0.false c.if-words.false c.give_numbers.ensures) _ c.write_image-size.ensures.0 c.write_image-size.ensures.1
+    let f = drafted c.if-text-gt-LONGEST_TEXT.false c.take_words-words.ensures c.goal_place-goal.ensures c.if-goal-eq0.false c.if-words.false c.give_numbers.ensures in
+    drafted_within f _ c.write_image-size.ensures.0 c.write_image-size.ensures.1
 
 pub slice_bounds-read-end-2 : goal.slice_bounds-read-end-2
 slice_bounds-read-end-2 c =
-    sym (length-take-le _ _ (drafted_within (drafted c.if-text-gt-LONGEST_TEXT.false c.take_words-words.ensures c.goal_place-goal.ensures c.if-goal-eq0.false c.if-words.false c.give_numbers.ensures) _ c.write_image-size.ensures.0 c.write_image-size.ensures.1))
+    let f = drafted c.if-text-gt-LONGEST_TEXT.false c.take_words-words.ensures c.goal_place-goal.ensures c.if-goal-eq0.false c.if-words.false c.give_numbers.ensures in
+    sym (length-take-le _ _ (drafted_within f _ c.write_image-size.ensures.0 c.write_image-size.ensures.1))
 
 pub returns-in-Refused : goal.returns-in-Refused
 returns-in-Refused c =
     let f = drafted c.if-text-gt-LONGEST_TEXT.false c.take_words-words.ensures c.goal_place-goal.ensures c.if-goal-eq0.false c.if-words.false c.give_numbers.ensures in
-    made_told c.refused-in-Refused.ensures (drafted_turned f _ c.write_image-size.ensures.0 c.write_image-size.ensures.1 c.requires.1 c.take_words-words.ensures.long.1 _ _ (subst (Reads _) c.in-Refused.is c.read.ensures))
+    let w = c.write_image-size.ensures in
+    made_told c.refused-in-Refused.ensures
+    (drafted_turned f _ w.0 w.1 c.requires.1 c.take_words-words.ensures.long.1 _ _ (subst (Reads _) c.in-Refused.is c.read.ensures))
 
 pub returns-in-Accepted : goal.returns-in-Accepted
 returns-in-Accepted c =
     let f = drafted c.if-text-gt-LONGEST_TEXT.false c.take_words-words.ensures c.goal_place-goal.ensures c.if-goal-eq0.false c.if-words.false c.give_numbers.ensures in
-    drafted_accepted f _ c.write_image-size.ensures.0 c.write_image-size.ensures.1 c.requires.1 c.take_words-words.ensures.long.1 (subst (Reads _) c.in-Accepted.is c.read.ensures) (omega (arith, c.take_words-words.ensures.few, c.take_words-words.ensures.short, c.if-text-gt-LONGEST_TEXT.false))
+    let w = c.write_image-size.ensures in
+    let t = c.take_words-words.ensures in
+    drafted_accepted f _ w.0 w.1 c.requires.1 t.long.1 (subst (Reads _) c.in-Accepted.is c.read.ensures)
+    (omega (arith, t.few, t.short, c.if-text-gt-LONGEST_TEXT.false))

@@ -24,22 +24,31 @@ slice_bounds-write_lines-end c =
     sym (length-take-le _ _ (omega (arith, m.long, m.few)))
 
 pub write_lines-n-requires : goal.write_lines-n-requires
-write_lines-n-requires c = omega (arith, found_short (c.make-draft.ensures.found c.if-draft-ne0.false) (omega (arith, c.make-draft.ensures.long, c.make-draft.ensures.few)), c.make-draft.ensures.room)
+write_lines-n-requires c =
+    let m = c.make-draft.ensures in
+    let short = found_short (m.found c.if-draft-ne0.false) (omega (arith, m.long, m.few)) in
+    omega (arith, short, m.room)
 
 pub slice_bounds-made-end : goal.slice_bounds-made-end
 slice_bounds-made-end c =
     let w = c.write_lines-n.ensures in
-    omega (arith, w.end, lined_size w, found_short (c.make-draft.ensures.found c.if-draft-ne0.false) (omega (arith, c.make-draft.ensures.long, c.make-draft.ensures.few)), c.make-draft.ensures.room)
+    let m = c.make-draft.ensures in
+    let short = found_short (m.found c.if-draft-ne0.false) (omega (arith, m.long, m.few)) in
+    omega (arith, w.end, lined_size w, short, m.room)
 
 pub slice_bounds-deliver-end : goal.slice_bounds-deliver-end
 slice_bounds-deliver-end c =
     let w = c.write_lines-n.ensures in
-    sym (length-take-le _ _ (omega (arith, w.end, lined_size w, found_short (c.make-draft.ensures.found c.if-draft-ne0.false) (omega (arith, c.make-draft.ensures.long, c.make-draft.ensures.few)), c.make-draft.ensures.room)))
+    let m = c.make-draft.ensures in
+    let short = found_short (m.found c.if-draft-ne0.false) (omega (arith, m.long, m.few)) in
+    sym (length-take-le _ _ (omega (arith, w.end, lined_size w, short, m.room)))
 
 pub deliver-requires : goal.deliver-requires
 deliver-requires c =
     let w = c.write_lines-n.ensures in
-    omega (arith, w.end, found_short (c.make-draft.ensures.found c.if-draft-ne0.false) (omega (arith, c.make-draft.ensures.long, c.make-draft.ensures.few)), length_take_most c.write_lines-n.result c.write_lines-n.new.room)
+    let m = c.make-draft.ensures in
+    let short = found_short (m.found c.if-draft-ne0.false) (omega (arith, m.long, m.few)) in
+    omega (arith, w.end, short, length_take_most c.write_lines-n.result c.write_lines-n.new.room)
 
 pub returns : goal.returns
 returns c =

@@ -11,12 +11,11 @@ returns-then-entry-mark c = lined_none _ _ _ (line_passed _ _ _ c.if-entry-mark.
 
 pub write_line-requires : goal.write_line-requires
 write_line-requires c =
-    let s = c in
     omega (
       arith,
-      s.requires,
-      ap length (line_taken s.args.text.now s.args.mark s.args.entry c.if-entry-mark.false),
-      ap (λ (n : ℕ). length (line_at s.args.text.now n)) c.place_of.ensures,
+      c.requires,
+      ap length (line_taken c.args.text.now c.args.mark c.args.entry c.if-entry-mark.false),
+      ap (λ (n : ℕ). length (line_at c.args.text.now n)) c.place_of.ensures,
     )
 
 pub returns : goal.returns

@@ -12,12 +12,11 @@ loop-i-init c = owing_start _ _ _
 
 pub write_entry-end-requires : goal.write_entry-end-requires
 write_entry-end-requires c =
-    let s = c in
-    let a = s.args in
+    let a = c.args in
     let l = c.loop-i in
     omega (
       arith,
-      s.requires,
+      c.requires,
       l.invariant.place,
       owing_size l.invariant,
       ap length (lines_next a.text.now a.mark a.entries.now l.i c.loop-i-test.true),

@@ -6,19 +6,17 @@ use Rattle.text.proofs.lines.write_lines.Goals as goal
 
 pub write_kind-first-requires : goal.write_kind-first-requires
 write_kind-first-requires c =
-    let s = c in
-    omega (arith, s.requires, length-append (lines_by s.args.text.now 1 s.args.entries.now) (lines_by s.args.text.now 0 s.args.entries.now))
+    omega (arith, c.requires, length-append (lines_by c.args.text.now 1 c.args.entries.now) (lines_by c.args.text.now 0 c.args.entries.now))
 
 pub write_kind-requires : goal.write_kind-requires
 write_kind-requires c =
-    let s = c in
     let w = c.write_kind-first.ensures in
     omega (
       arith,
-      s.requires,
+      c.requires,
       w.end,
       lined_size w,
-      length-append (lines_by s.args.text.now 1 s.args.entries.now) (lines_by s.args.text.now 0 s.args.entries.now),
+      length-append (lines_by c.args.text.now 1 c.args.entries.now) (lines_by c.args.text.now 0 c.args.entries.now),
     )
 
 pub returns : goal.returns

@@ -26,17 +26,14 @@ loop-i-init c = naming_start _ _ _ _ _ _ _ c.requires.0 c.requires.1
 -- the name's place has a number
 has : (e : Else1) → e.wide-code.result - first_name < length e.args.numbers.now
 has e =
-    let l = e in
-    omega (arith, e.wide-code.ensures.0, l.requires.0.known l.loop-i.i, e.if-code-lt-FIRST_NAME.false)
+    omega (arith, e.wide-code.ensures.0, e.requires.0.known e.loop-i.i, e.if-code-lt-FIRST_NAME.false)
 
 -- there is room for the field
 room : (e : Else1) → e.loop-i.end + 2 ≤ length e.loop-i.image
 room e =
-    let l = e in
-    let s = l in
-    naming_room _ _ _ _ _ _ _ s.requires.0 l.loop-i.invariant e.loop-i-test.true _ e.wide-code.ensures.0 e.if-code-lt-FIRST_NAME.false s.requires.2
+    naming_room _ _ _ _ _ _ _ e.requires.0 e.loop-i.invariant e.loop-i-test.true _ e.wide-code.ensures.0 e.if-code-lt-FIRST_NAME.false e.requires.2
 
-product : (w : After-wide2) → let l = w in l.loop-i.times * w.wide-number.result ≤ literal_factor * w.wide-number.result
+product : (w : After-wide2) → w.loop-i.times * w.wide-number.result ≤ literal_factor * w.wide-number.result
 product w = mul-le-mul_right _ w.loop-i.invariant.factor_small
 
 pub bounds-codes-i : goal.bounds-codes-i
@@ -44,12 +41,10 @@ bounds-codes-i c = omega (arith, c.requires.0.within, c.loop-i-test.true)
 
 pub loop-i-preserved-then-code-lt-FIRST_NAME : goal.loop-i-preserved-then-code-lt-FIRST_NAME
 loop-i-preserved-then-code-lt-FIRST_NAME c =
-    let w = c in
-    let l = w in
-    let a = l.args in
-    subst (λ (sign : ℕ). Naming a.codes.now a.from a.to a.numbers.now a.factor a.image.now a.at l.loop-i.image (l.loop-i.i + 1) l.loop-i.end l.loop-i.times sign)
+    let a = c.args in
+    subst (λ (sign : ℕ). Naming a.codes.now a.from a.to a.numbers.now a.factor a.image.now a.at c.loop-i.image (c.loop-i.i + 1) c.loop-i.end c.loop-i.times sign)
     (sym c.sign_after-sign.ensures)
-    (naming_other _ _ _ _ _ _ _ l.requires.0 l.loop-i.invariant w.loop-i-test.true _ w.wide-code.ensures.0 c.if-code-lt-FIRST_NAME.true)
+    (naming_other _ _ _ _ _ _ _ c.requires.0 c.loop-i.invariant c.loop-i-test.true _ c.wide-code.ensures.0 c.if-code-lt-FIRST_NAME.true)
 
 pub offset_bounds-numbers-code : goal.offset_bounds-numbers-code
 offset_bounds-numbers-code c = omega (arith, has c.before, c.wide-code.ensures.1)
@@ -65,17 +60,12 @@ put_field-requires c = room c.before.before.before.before
 
 pub overflow_add-end : goal.overflow_add-end
 overflow_add-end c =
-    let e = c in
-    let l = e in
-    omega (arith, room e.before.before.before.before.before.before.before, naming_length _ _ _ _ _ _ _ l.requires.0 l.loop-i.invariant)
+    omega (arith, room c.before.before.before.before.before.before.before, naming_length _ _ _ _ _ _ _ c.requires.0 c.loop-i.invariant)
 
 pub loop-i-preserved : goal.loop-i-preserved
 loop-i-preserved c =
-    let v = c in
-    let e = v in
-    let l = e in
-    naming_name _ _ _ _ _ _ _ l.requires.0 l.loop-i.invariant e.loop-i-test.true _ e.wide-code.ensures.0 e.if-code-lt-FIRST_NAME.false
-    (c.put_field.ensures ∙ ap (λ (n : ℕ). laid l.loop-i.image l.loop-i.end ((l.loop-i.times * n + l.loop-i.sign) ∷ [])) v.wide-number.ensures.0)
+    naming_name _ _ _ _ _ _ _ c.requires.0 c.loop-i.invariant c.loop-i-test.true _ c.wide-code.ensures.0 c.if-code-lt-FIRST_NAME.false
+    (c.put_field.ensures ∙ ap (λ (n : ℕ). laid c.loop-i.image c.loop-i.end ((c.loop-i.times * n + c.loop-i.sign) ∷ [])) c.wide-number.ensures.0)
 
 pub shape_of-image : goal.shape_of-image
 shape_of-image c = naming_length _ _ _ _ _ _ _ c.requires.0 c.loop-i.invariant

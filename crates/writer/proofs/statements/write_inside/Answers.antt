@@ -5,40 +5,33 @@ use Rattle.writer.proofs.statements.write_inside.Goals as goal
 
 pub write_names-requires : goal.write_names-requires
 write_names-requires c =
-    let s = c in
-    let a = s.args in (
-      inside_part _ _ _ 0 _ _ s.requires.0 s.requires.1 s.requires.2,
+    let a = c.args in (
+      inside_part _ _ _ 0 _ _ c.requires.0 c.requires.1 c.requires.2,
       omega arith,
-      clause_room a.codes.now a.goal a.numbers.now a.kind a.from a.to c.if-kind-eq-DOT.true _ _ s.requires.3,
+      clause_room a.codes.now a.goal a.numbers.now a.kind a.from a.to c.if-kind-eq-DOT.true _ _ c.requires.3,
     )
 
 pub returns-then-kind-eq-DOT : goal.returns-then-kind-eq-DOT
 returns-then-kind-eq-DOT c =
-    let v = c in
-    let a = v.args in
-    clause_wrote a.codes.now a.goal a.numbers.now a.kind a.from a.to v.if-kind-eq-DOT.true v.write_names.ensures
+    let a = c.args in
+    clause_wrote a.codes.now a.goal a.numbers.now a.kind a.from a.to c.if-kind-eq-DOT.true c.write_names.ensures
 
 pub write_counted-ways-requires : goal.write_counted-ways-requires
 write_counted-ways-requires c =
-    let s = c in
-    let a = s.args in (
-      inside_part _ _ _ 0 _ _ s.requires.0 s.requires.1 s.requires.2,
-      conditions_room a.codes.now a.goal a.numbers.now a.kind a.from a.to c.if-kind-eq-DOT.false _ _ s.requires.3,
+    let a = c.args in (
+      inside_part _ _ _ 0 _ _ c.requires.0 c.requires.1 c.requires.2,
+      conditions_room a.codes.now a.goal a.numbers.now a.kind a.from a.to c.if-kind-eq-DOT.false _ _ c.requires.3,
     )
 
 pub write_ways-requires : goal.write_ways-requires
 write_ways-requires c =
-    let v = c in
-    let s = v in
-    let a = s.args in (
-      s.requires.0,
-      omega (arith, s.requires.2),
-      ways_room a.codes.now a.goal a.numbers.now a.kind a.from a.to v.if-kind-eq-DOT.false v.write_counted-ways.ensures s.requires.3,
+    let a = c.args in (
+      c.requires.0,
+      omega (arith, c.requires.2),
+      ways_room a.codes.now a.goal a.numbers.now a.kind a.from a.to c.if-kind-eq-DOT.false c.write_counted-ways.ensures c.requires.3,
     )
 
 pub returns : goal.returns
 returns c =
-    let u = c in
-    let v = u in
-    let a = v.args in
-    constraint_wrote a.codes.now a.goal a.numbers.now a.kind a.from a.to v.if-kind-eq-DOT.false v.write_counted-ways.ensures u.write_ways.ensures
+    let a = c.args in
+    constraint_wrote a.codes.now a.goal a.numbers.now a.kind a.from a.to c.if-kind-eq-DOT.false c.write_counted-ways.ensures c.write_ways.ensures

@@ -3,4 +3,4 @@ use Rattle.writer.specs.Wrote.{wrote_record}
 use Rattle.writer.proofs.statements.write_record.Goals as goal
 
 pub returns : goal.returns
-returns c = let p = c in wrote_record _ p.write_inside-end.ensures p.put_field.ensures
+returns c = wrote_record _ c.write_inside-end.ensures c.put_field.ensures

@@ -17,8 +17,7 @@ After-part_end = lts.After-part_end tie.the-claims reads.Pre reads.Post goal.the
 placed : (p : After-part_end)
     → (p.loop-i.i ≤ p.part_end-stop.result) × (p.part_end-stop.result < p.args.goal)
 placed p =
-    let l = p in
-    recording_place _ _ _ _ _ _ l.loop-i.invariant l.requires.0 p.loop-i-test.true _ p.part_end-stop.ensures
+    recording_place _ _ _ _ _ _ p.loop-i.invariant p.requires.0 p.loop-i-test.true _ p.part_end-stop.ensures
 
 pub loop-i-init : goal.loop-i-init
 loop-i-init c = recording_start _ _ _ _ _ _
@@ -40,53 +39,38 @@ loop-i-smaller-then-not-starts c = omega (arith, placed c.before.before.before.b
 
 pub loop-i-preserved-then-not-starts : goal.loop-i-preserved-then-not-starts
 loop-i-preserved-then-not-starts c =
-    let p = c in
-    let l = p in
-    recording_pass _ _ _ _ _ _ l.loop-i.invariant l.requires.0 p.loop-i-test.true _ p.part_end-stop.ensures
+    recording_pass _ _ _ _ _ _ c.loop-i.invariant c.requires.0 c.loop-i-test.true _ c.part_end-stop.ensures
     (sym c.starts.ensures ∙ c.if-not-starts.true)
 
 pub write_record-end-requires : goal.write_record-end-requires
-write_record-end-requires c =
-    let e = c in
-    let p = e in
-    let l = p in
-    let s = l in (
-      s.requires.0,
-      (placed p.before.before.before.before.before).0,
-      (placed p.before.before.before.before.before).1,
-      recording_room _ _ _ _ _ _ l.loop-i.invariant s.requires.0 p.loop-i-test.true _ p.part_end-stop.ensures (sym e.starts.ensures ∙ e.if-not-starts.false) s.requires.1,
-    )
+write_record-end-requires c = (
+  c.requires.0,
+  (placed c.before.before.before.before.before).0,
+  (placed c.before.before.before.before.before).1,
+  recording_room _ _ _ _ _ _ c.loop-i.invariant c.requires.0 c.loop-i-test.true _
+      c.part_end-stop.ensures (sym c.starts.ensures ∙ c.if-not-starts.false) c.requires.1,
+)
 
 pub overflow_add-count : goal.overflow_add-count
 overflow_add-count c =
-    let p = c in
-    let l = p in
-    omega (arith, l.loop-i.invariant.few, placed p.before.before.before.before.before.before.before.before, l.requires.0.within)
+    omega (arith, c.loop-i.invariant.few, placed c.before.before.before.before.before.before.before.before, c.requires.0.within)
 
 pub loop-i-smaller : goal.loop-i-smaller
 loop-i-smaller c = omega (arith, placed c.before.before.before.before.before.before.before.before)
 
 pub loop-i-preserved : goal.loop-i-preserved
 loop-i-preserved c =
-    let v = c in
-    let e = v in
-    let p = e in
-    let l = p in
-    recording_again _ _ _ _ _ _ l.loop-i.invariant l.requires.0 p.loop-i-test.true _ p.part_end-stop.ensures
-    (sym e.starts.ensures ∙ e.if-not-starts.false) v.write_record-end.ensures
+    recording_again _ _ _ _ _ _ c.loop-i.invariant c.requires.0 c.loop-i-test.true _ c.part_end-stop.ensures
+    (sym c.starts.ensures ∙ c.if-not-starts.false) c.write_record-end.ensures
 
 pub put_field-requires : goal.put_field-requires
 put_field-requires c =
-    let l = c in
-    omega (arith, recording_length _ _ _ _ _ _ l.loop-i.invariant, l.requires.1)
+    omega (arith, recording_length _ _ _ _ _ _ c.loop-i.invariant, c.requires.1)
 
 pub shape_of-image : goal.shape_of-image
 shape_of-image c =
-    let p = c in
-    ap length p.put_field.ensures ∙ length_laid _ _ _ ∙ recording_length _ _ _ _ _ _ p.loop-i.invariant
+    ap length c.put_field.ensures ∙ length_laid _ _ _ ∙ recording_length _ _ _ _ _ _ c.loop-i.invariant
 
 pub returns : goal.returns
 returns c =
-    let p = c in
-    let a = p in
-    recording_end _ _ _ _ _ _ a.loop-i.invariant a.loop-i-test.false p.put_field.ensures
+    recording_end _ _ _ _ _ _ c.loop-i.invariant c.loop-i-test.false c.put_field.ensures

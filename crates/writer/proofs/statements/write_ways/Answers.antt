@@ -19,51 +19,40 @@ loop-i-init c = waying_start _ _ _ _ _ _ c.requires.1
 placed : (p : After-part_end)
     → (p.loop-i.i ≤ p.part_end-stop.result) × (p.part_end-stop.result < p.args.goal)
 placed p =
-    let l = p in
-    waying_place _ _ _ _ _ _ l.loop-i.invariant l.requires.0 p.loop-i-test.true _ p.part_end-stop.ensures
+    waying_place _ _ _ _ _ _ p.loop-i.invariant p.requires.0 p.loop-i-test.true _ p.part_end-stop.ensures
 
 pub part_end-stop-requires : goal.part_end-stop-requires
 part_end-stop-requires c = omega (arith, c.requires.0.within, c.loop-i.invariant.low)
 
 pub write_way-end-requires : goal.write_way-end-requires
-write_way-end-requires c =
-    let p = c in
-    let l = p in
-    let s = l in (
-      waying_part _ _ _ _ _ _ l.loop-i.invariant s.requires.0 p.loop-i-test.true _ p.part_end-stop.ensures,
-      waying_room _ _ _ _ _ _ l.loop-i.invariant s.requires.0 p.loop-i-test.true _ p.part_end-stop.ensures s.requires.2,
-    )
+write_way-end-requires c = (
+  waying_part _ _ _ _ _ _ c.loop-i.invariant c.requires.0 c.loop-i-test.true _ c.part_end-stop.ensures,
+  waying_room _ _ _ _ _ _ c.loop-i.invariant c.requires.0 c.loop-i-test.true _ c.part_end-stop.ensures c.requires.2,
+)
 
 pub offset_bounds-codes-stop : goal.offset_bounds-codes-stop
-offset_bounds-codes-stop c = let p = c in omega (arith, placed p.before.before.before.before.before, p.requires.0.within)
+offset_bounds-codes-stop c = omega (arith, placed c.before.before.before.before.before, c.requires.0.within)
 
 pub bounds-codes-stop : goal.bounds-codes-stop
-bounds-codes-stop c = let p = c in omega (arith, placed p.before.before.before.before.before.before, p.requires.0.within)
+bounds-codes-stop c = omega (arith, placed c.before.before.before.before.before.before, c.requires.0.within)
 
 pub shape_of-image-then-codes-stop-eq-DOT : goal.shape_of-image-then-codes-stop-eq-DOT
 shape_of-image-then-codes-stop-eq-DOT c =
-    let v = c in
-    wrote_length v.write_way-end.ensures ∙ waying_length _ _ _ _ _ _ v.loop-i.invariant
+    wrote_length c.write_way-end.ensures ∙ waying_length _ _ _ _ _ _ c.loop-i.invariant
 
 pub returns-then-codes-stop-eq-DOT : goal.returns-then-codes-stop-eq-DOT
 returns-then-codes-stop-eq-DOT c =
-    let v = c in
-    let p = v in
-    let l = p in
-    waying_last _ _ _ _ _ _ l.loop-i.invariant l.requires.0 p.loop-i-test.true _ p.part_end-stop.ensures v.write_way-end.ensures c.if-codes-stop-eq-DOT.true
+    waying_last _ _ _ _ _ _ c.loop-i.invariant c.requires.0 c.loop-i-test.true _ c.part_end-stop.ensures c.write_way-end.ensures c.if-codes-stop-eq-DOT.true
 
 pub overflow_add-i : goal.overflow_add-i
-overflow_add-i c = let p = c in omega (arith, placed p.before.before.before.before.before.before.before, p.requires.0.within)
+overflow_add-i c = omega (arith, placed c.before.before.before.before.before.before.before, c.requires.0.within)
 
 pub loop-i-smaller : goal.loop-i-smaller
-loop-i-smaller c = let p = c in omega (arith, placed p.before.before.before.before.before.before.before)
+loop-i-smaller c = omega (arith, placed c.before.before.before.before.before.before.before)
 
 pub loop-i-preserved : goal.loop-i-preserved
 loop-i-preserved c =
-    let v = c in
-    let p = v in
-    let l = p in
-    waying_again _ _ _ _ _ _ l.loop-i.invariant l.requires.0 p.loop-i-test.true _ p.part_end-stop.ensures v.write_way-end.ensures c.if-codes-stop-eq-DOT.false
+    waying_again _ _ _ _ _ _ c.loop-i.invariant c.requires.0 c.loop-i-test.true _ c.part_end-stop.ensures c.write_way-end.ensures c.if-codes-stop-eq-DOT.false
 
 pub shape_of-image : goal.shape_of-image
 shape_of-image c = waying_length _ _ _ _ _ _ c.loop-i.invariant
