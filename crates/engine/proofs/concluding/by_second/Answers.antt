@@ -3,56 +3,35 @@ use mathlib.Core.Path.{ap}
 use native.Mathlib.Omega.{arith}
 use Rattle.admitting.specs.AdmitLaws.{nodes_in}
 use Rattle.engine.specs.VerdictLaws.{seconded_admitted, seconded_excluded, seconded_spent, seconded_broken, more_nodes}
-use borrow.Author.Rules.{rules}
-use Rattle.engine.proofs.concluding.by_second.Lts as lts
-use Rattle.engine.proofs.concluding.by_second.Tie as tie
-use Rattle.engine.proofs.concluding.by_second.Reads as reads
 use Rattle.engine.proofs.concluding.by_second.Goals as goal
-
-abbrev After-seek_book : Type 0
-After-seek_book = lts.After-seek_book tie.the-claims reads.Pre reads.Post
-
-abbrev Start : Type 0
-Start = lts.Start tie.the-claims reads.Pre reads.Post
-
--- the entry, from the second search
-abbrev entry : After-seek_book → Start
-entry m = m.before.before.before.before.before
 
 pub seek_book-requires : goal.seek_book-requires
 seek_book-requires c = c.requires.seekable
 
 pub overflow_add-result : goal.overflow_add-result
 overflow_add-result c =
-    let m = c in
-    omega (arith, more_nodes _ _ _ _ _ (entry m.before.before.before.before.before.before).requires _ _ m.seek_book.ensures _ (ap nodes_in c.in-Admitted.is))
+    omega (arith, more_nodes _ _ _ _ _ c.requires _ _ c.seek_book.ensures _ (ap nodes_in c.in-Admitted.is))
 
 pub overflow_add-result-in-Excluded : goal.overflow_add-result-in-Excluded
 overflow_add-result-in-Excluded c =
-    let m = c in
-    omega (arith, more_nodes _ _ _ _ _ (entry m.before.before.before.before.before.before).requires _ _ m.seek_book.ensures _ (ap nodes_in c.in-Excluded.is))
+    omega (arith, more_nodes _ _ _ _ _ c.requires _ _ c.seek_book.ensures _ (ap nodes_in c.in-Excluded.is))
 
 pub overflow_add-result-in-Refused : goal.overflow_add-result-in-Refused
 overflow_add-result-in-Refused c =
-    let m = c in
-    omega (arith, more_nodes _ _ _ _ _ (entry m.before.before.before.before.before.before.before.before.before.before).requires _ _ m.seek_book.ensures _ (ap nodes_in c.in-Refused.is))
+    omega (arith, more_nodes _ _ _ _ _ c.requires _ _ c.seek_book.ensures _ (ap nodes_in c.in-Refused.is))
 
 pub returns-in-Admitted : goal.returns-in-Admitted
 returns-in-Admitted c =
-    let m = c in
-    seconded_admitted _ _ _ _ _ _ (entry m.before.before.before.before.before.before).requires _ _ m.seek_book.ensures _ c.in-Admitted.is
+    seconded_admitted _ _ _ _ _ _ c.requires _ _ c.seek_book.ensures _ c.in-Admitted.is
 
 pub returns-in-Excluded : goal.returns-in-Excluded
 returns-in-Excluded c =
-    let m = c in
-    seconded_excluded _ _ _ _ _ _ (entry m.before.before.before.before.before.before).requires _ _ m.seek_book.ensures _ c.in-Excluded.is
+    seconded_excluded _ _ _ _ _ _ c.requires _ _ c.seek_book.ensures _ c.in-Excluded.is
 
 pub returns-in-Broken : goal.returns-in-Broken
 returns-in-Broken c =
-    let m = c in
-    seconded_broken _ _ _ _ _ _ (entry m.before.before.before.before.before.before).requires _ _ m.seek_book.ensures _ _ c.in-Broken.is
+    seconded_broken _ _ _ _ _ _ c.requires _ _ c.seek_book.ensures _ _ c.in-Broken.is
 
 pub returns-in-Refused : goal.returns-in-Refused
 returns-in-Refused c =
-    let m = c in
-    seconded_spent _ _ _ _ _ _ (entry m.before.before.before.before.before.before.before.before.before.before).requires _ _ m.seek_book.ensures _ _ c.in-Refused.is _ c.clear.ensures
+    seconded_spent _ _ _ _ _ _ c.requires _ _ c.seek_book.ensures _ _ c.in-Refused.is _ c.clear.ensures

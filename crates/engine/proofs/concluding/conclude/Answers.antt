@@ -2,7 +2,6 @@
 use mathlib.Core.Path.{refl}
 use Rattle.engine.specs.VerdictLaws.{hypothesis_small, concluded_settled, concluded_open}
 use Rattle.engine.specs.declared.deciding.Settled.TheVariants as settled
-use borrow.Author.Rules.{rules}
 use Rattle.engine.proofs.concluding.conclude.Goals as goal
 
 pub decide-requires : goal.decide-requires
