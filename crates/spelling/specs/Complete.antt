@@ -61,7 +61,7 @@ literal_reads l rest h = go l.sign
   where
     go : (t : Bool) → literal (of_literal (literal_of l.atom t) ++ rest) ≡ found (literal_of l.atom t) rest
     go true =
-        next_other naf _ _ (of_atom l.atom ++ rest) (atom_starts naf l.atom rest h refl refl)
+        next_other naf (λ ws. after (atom ws) negated) (λ ws. after (atom ws) (λ a. give (literal_of a true))) (of_atom l.atom ++ rest) (atom_starts naf l.atom rest h refl refl)
         ∙ ap (λ (st : Step Atom). after st (λ a. give (literal_of a true))) (atom_reads l.atom rest h)
     go false =
         ap (λ (z : List Word). after (atom z) negated) (append_assoc (of_atom l.atom) (close ∷ []) rest)
@@ -88,7 +88,7 @@ module _ {A : Type 0} (s : Word) (item : Walk A) (f : A → List Word) (F : A �
   separated_reads (suc n) (x ∷ []) rest some h long stop e =
       ap (λ (z : List Word). after (item (z ++ rest)) behind) (append-nil (f x))
       ∙ ap (λ (st : Step A). after st behind) (item-reads x rest (every_first h) stop)
-      ∙ next_other s _ _ rest e
+      ∙ next_other s (λ ws. after (separated s item n ws) (λ xs. give (x ∷ xs))) (give (x ∷ [])) rest e
     where
       behind : A → Walk (List A)
       behind x = next s (λ ws. after (separated s item n ws) (λ xs. give (x ∷ xs))) (give (x ∷ []))
@@ -119,7 +119,7 @@ pub side_reads : (n : ℕ) (ls : List Literal) (rest : List Word) → LiteralsFi
 unfolding same next is_name small in_name
 side_reads n [] rest h long e = refl
 side_reads n (l ∷ ls) rest h long e =
-    next_other true_word _ _ (of_literals (l ∷ ls) ++ rest) (front true_word refl refl refl)
+    next_other true_word (give []) (literals n) (of_literals (l ∷ ls) ++ rest) (front true_word refl refl refl)
     ∙ literals_reads n (l ∷ ls) rest tt h long e
   where
     front : (v : Word) → is_name v ≡ false → same abd v ≡ false → same naf v ≡ false → starts v (of_literals (l ∷ ls) ++ rest) ≡ false
@@ -136,7 +136,7 @@ unfolding same next is_name small in_name
 ways_reads n [] rest h long e d = refl
 ways_reads n ([] ∷ to) rest h long e d = absurd (every_first h).0.0
 ways_reads n ((l ∷ ls) ∷ to) rest h long e d =
-    next_other false_word _ _ (of_ways ((l ∷ ls) ∷ to) ++ rest)
+    next_other false_word (give []) (separated semicolon (literals n) n) (of_ways ((l ∷ ls) ∷ to) ++ rest)
     (ap (starts false_word)
     (append_assoc (of_literals (l ∷ ls)) (flat (λ (k : List Literal). semicolon ∷ of_literals k) to) rest
     ∙ append_assoc (of_literal l) (flat (λ (k : Literal). comma ∷ of_literal k) ls) _)
@@ -214,7 +214,7 @@ document_reads m (suc n) [] goal rest fine fits g few long =
     whole : List Literal → Walk Document
     whole ls = give (record { statements = []; goal = ls })
 document_reads m (suc n) (s ∷ ss) goal rest fine fits g few long =
-    next_other query _ _ (of_document (record { statements = s ∷ ss; goal = goal }) ++ rest)
+    next_other query ended (λ ws. after (statement m ws) others) (of_document (record { statements = s ∷ ss; goal = goal }) ++ rest)
     (ap (starts query) apart ∙ statement_starts s _ (every_first fine))
     ∙ ap (λ (z : List Word). after (statement m z) others) apart
     ∙ ap (λ (st : Step Statement). after st others) (statement_reads m s _ (every_first fits))
@@ -228,6 +228,9 @@ document_reads m (suc n) (s ∷ ss) goal rest fine fits g few long =
     apart =
         ap (λ (z : List Word). z ++ rest) (append_assoc (of_statement s) (flat of_statement ss) behind)
         ∙ append_assoc (of_statement s) (flat of_statement ss ++ behind) rest
+
+    ended : Walk Document
+    ended ws = after (goal_line m ws) (λ ls. give (record { statements = []; goal = ls }))
 
     others : Statement → Walk Document
     others s ws = after (document m n ws) (λ d. give (record { statements = s ∷ d.statements; goal = d.goal }))

@@ -1,6 +1,6 @@
 -- The lines of the names of an accepted text: 256 names at the most, each with at most 31 bytes and the end of its line.
 -- Assumes nothing.
-use Rattle.std.specs.Prelude.{ℕ, ◌+◌, ◌*◌, ◌≤◌, ◌≡◌, refl, Bool, true, false, ◌&&◌, not, ◌⊎◌, List, [], ◌∷◌, ◌++◌, length, leb}
+use Rattle.std.specs.Prelude.{ℕ, ◌*◌, ◌≤◌, ◌≡◌, refl, Bool, true, false, ◌&&◌, not, List, [], ◌∷◌, ◌++◌, length, leb}
 use Rattle.std.proofs.Common.{arith, sym, ap, subst, ⊎_elim, length-append, leb-true}
 use mathlib.Core.List.Memᴰ
 use Rattle.base.specs.Bools.{both_left, both_right}

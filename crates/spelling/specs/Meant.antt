@@ -18,7 +18,7 @@ use Rattle.image.specs.LoopLaws.{Closed, loopless_free}
 use Rattle.image.specs.Encode.{longest_image, longest_image_lem}
 use Rattle.image.specs.Accepted.{within, loopless}
 use Rattle.spelling.specs.paper.Document.{Atom, Literal, Statement, clause, constraint, Document}
-use Rattle.spelling.specs.paper.Said.{atoms_in, mentions_in, mentions, abducibles, numbered, number_of, lit_in, clauses_in, clashing, book_of}
+use Rattle.spelling.specs.paper.Said.{atoms_in, mentions_in, mentions, numbered, number_of, lit_in, clauses_in, clashing, book_of}
 use Rattle.spelling.specs.paper.Answer.{Says, image_of, Clear, Ends, malformed, clashes, turned, short, whole, Writes}
 use Rattle.image.specs.declared.Writing.TheVariants.{Written, Refused}
 use Rattle.image.specs.paper.Writing.{Ending, bytes, number, answer_of, room_of}

@@ -1,7 +1,7 @@
 -- The table of names has the document's names: where no mention differs, its marked entries are the abducibles, and the others the
 -- others, each in their order; and some mention differs exactly if a name clashes.
 -- Assumes nothing.
-use Rattle.std.specs.Prelude.{◌+◌, ◌≡◌, Bool, ◌&&◌, ◌||◌, ◌⊎◌}
+use Rattle.std.specs.Prelude.{◌≡◌, Bool, ◌&&◌, ◌||◌, ◌⊎◌}
 use Rattle.std.proofs.Math.Path.{refl, sym, ap}
 use Rattle.std.proofs.Common.{◌∙◌, subst, inl, inr}
 use Rattle.std.proofs.Math.Bool.{true, false, not}

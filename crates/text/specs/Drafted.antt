@@ -1,6 +1,6 @@
 -- What the parts of the code find of a text, put together: the document that its words spell, the numbers of its names, and its image.
 -- Assumes nothing.
-use Rattle.std.specs.Prelude.{ℕ, suc, ◌+◌, ◌-◌, ◌≤◌, ◌<◌, ◌≡◌, refl, Bool, true, false, List, ◌++◌, map, length, take, drop}
+use Rattle.std.specs.Prelude.{ℕ, suc, ◌-◌, ◌≤◌, ◌<◌, ◌≡◌, refl, Bool, true, false, List, ◌++◌, map, length, take, drop}
 use Rattle.std.proofs.Common.{arith, sym, ap₂, ◌∙◌, subst, length-append, length-drop, take_at}
 use Rattle.std.proofs.Math.Path.{ap}
 use Rattle.base.specs.paper.Lists.{◌∈◌, flat, filter}
