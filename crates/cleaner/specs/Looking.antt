@@ -19,7 +19,7 @@ use Rattle.sets.specs.SetLaws.{within_has}
 use Rattle.area.specs.paper.Work.{work_numbers}
 use Rattle.searching.specs.paper.Rules.{Outcome, finished, used_up, no_room, search_end}
 use Rattle.searching.specs.paper.Seek.{Seeking, admitted, excluded, spent, sought}
-use Rattle.searching.specs.Main.{listed}
+use Rattle.searching.proofs.Main.{listed}
 use Rattle.lister.specs.paper.Promise.{most_budget, Result, searched, result_of, answer_of, sets_of, work_of, Lists}
 use Rattle.lister.specs.PromiseLaws.{Admitted, admitted_result}
 use Rattle.lister.specs.declared.Listing.{Listing}

@@ -17,7 +17,7 @@ use Rattle.sets.specs.paper.Kept.{zeros}
 use Rattle.sets.specs.SetLaws.{within_has}
 use Rattle.area.specs.paper.Work.{work_numbers}
 use Rattle.searching.specs.paper.Seek.{Seeking, admitted, excluded, spent, sought}
-use Rattle.searching.specs.Main.{listed}
+use Rattle.searching.proofs.Main.{listed}
 use Rattle.lister.specs.paper.Promise.{most_budget, Result, turned, searched, result_of, answer_of, work_of}
 use Rattle.lister.specs.PromiseLaws.{Admitted}
 use Rattle.admitting.specs.paper.Promise as admitting
