@@ -12,7 +12,10 @@ pub list_of-requires : goal.list_of-requires
 list_of-requires c = (clause_record_lem _ _ _ _ _ c.requires _ (ap (λ (k : ℕ). k / 2 - 1) c.field_at.ensures.0)).literals
 
 pub lay_opposites-link-requires : goal.lay_opposites-link-requires
-lay_opposites-link-requires c = let r = clause_record_lem _ _ _ _ _ c.requires _ (ap (λ (k : ℕ). k / 2 - 1) c.field_at.ensures.0) in let p = c.requires in record { literals = r.literals; room = r.room; long = simp length-set (omega arith) }
+lay_opposites-link-requires c =
+    let r = clause_record_lem _ _ _ _ _ c.requires _ (ap (λ (k : ℕ). k / 2 - 1) c.field_at.ensures.0) in
+    let p = c.requires in
+    record { literals = r.literals; room = r.room; long = simp length-set (omega arith) }
 
 pub offset_bounds-work-c : goal.offset_bounds-work-c
 offset_bounds-work-c c = let r = clause_record_lem _ _ _ _ _ c.requires _ (ap (λ (k : ℕ). k / 2 - 1) c.field_at.ensures.0) in omega arith
@@ -34,7 +37,8 @@ overflow_add-result-3 c = let r = clause_record_lem _ _ _ _ _ c.requires _ (ap (
 
 pub returns : goal.returns
 returns c =
-    clause_laid _ _ _ _ _ c.requires _ _ _ _ _ (ap (λ (k : ℕ). k / 2 - 1) c.field_at.ensures.0) c.list_of.ensures c.field_at-2.ensures.0 c.lay_opposites-link.ensures
+    clause_laid _ _ _ _ _ c.requires _ _ _ _ _ (ap (λ (k : ℕ). k / 2 - 1) c.field_at.ensures.0)
+    c.list_of.ensures c.field_at-2.ensures.0 c.lay_opposites-link.ensures
 
 pub shape_of-work : goal.shape_of-work
 shape_of-work c = (returns c).size
@@ -64,7 +68,10 @@ pub offset_bounds-work-way-2 : goal.offset_bounds-work-way-2
 offset_bounds-work-way-2 c = let r = clause_record_lem _ _ _ _ _ c.requires _ (ap (λ (k : ℕ). k / 2 - 1) c.field_at.ensures.0) in omega arith
 
 pub bounds-work-way-2 : goal.bounds-work-way-2
-bounds-work-way-2 c = let r = clause_record_lem _ _ _ _ _ c.requires _ (ap (λ (k : ℕ). k / 2 - 1) c.field_at.ensures.0) in let p = c.requires in simp length-set (omega arith)
+bounds-work-way-2 c =
+    let r = clause_record_lem _ _ _ _ _ c.requires _ (ap (λ (k : ℕ). k / 2 - 1) c.field_at.ensures.0) in
+    let p = c.requires in
+    simp length-set (omega arith)
 
 pub overflow_add-at-3 : goal.overflow_add-at-3
 overflow_add-at-3 c = let r = clause_record_lem _ _ _ _ _ c.requires _ (ap (λ (k : ℕ). k / 2 - 1) c.field_at.ensures.0) in omega arith
