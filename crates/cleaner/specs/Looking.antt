@@ -25,7 +25,7 @@ use Rattle.lister.specs.PromiseLaws.{Admitted, admitted_result}
 use Rattle.lister.specs.declared.Listing.{Listing}
 use Rattle.lister.specs.declared.Listing.TheVariants as listing
 use Rattle.engine.specs.declared.Verdict.{Verdict}
-use Rattle.engine.specs.declared.Verdict.TheVariants.{Needed, Possible, Broken, Refused}
+use Rattle.engine.specs.declared.Verdict.TheVariants.{Needed, Possible, Refused}
 use Rattle.engine.specs.paper.Verdict.{verdict_result, second_of, second, unsettled, by_second, decided, verdict_of, kept, verdict_sets, Refusal, Says}
 use Rattle.engine.specs.VerdictLaws.{by_listing_lem, decided_says}
 use Rattle.cleaner.specs.declared.Sorted.{Sorted}
