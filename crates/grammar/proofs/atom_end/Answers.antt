@@ -3,7 +3,7 @@ use mathlib.Core.Path.{sym, ap, ◌∙◌}
 use native.Mathlib.Omega.{arith}
 use Rattle.spelling.specs.Codes.{abd_code, close_code}
 use Rattle.grammar.specs.Places.{word_end, atom_end}
-use Rattle.grammar.specs.PlaceLaws.{word_among, stood, astray}
+use Rattle.grammar.proofs.PlaceLaws.{word_among, stood, astray}
 use Rattle.grammar.proofs.atom_end.Goals as goal
 
 pub overflow_add-at : goal.overflow_add-at

@@ -1,6 +1,6 @@
 -- `grammar::code_at` meets its contract. Assumes nothing.
 use mathlib.Core.Path.{sym}
-use Rattle.grammar.specs.PlaceLaws.{code_there, behind_all}
+use Rattle.grammar.proofs.PlaceLaws.{code_there, behind_all}
 use Rattle.grammar.proofs.code_at.Goals as goal
 
 pub returns-then-at-codes : goal.returns-then-at-codes

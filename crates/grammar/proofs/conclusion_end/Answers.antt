@@ -3,7 +3,7 @@ use mathlib.Core.Path.{sym, ◌∙◌}
 use native.Mathlib.Omega.{arith}
 use Rattle.spelling.specs.Codes.{false_code}
 use Rattle.grammar.specs.Places.{conclusion_end}
-use Rattle.grammar.specs.PlaceLaws.{word_among, stood, astray}
+use Rattle.grammar.proofs.PlaceLaws.{word_among, stood, astray}
 use Rattle.grammar.proofs.conclusion_end.Goals as goal
 
 pub overflow_add-result : goal.overflow_add-result

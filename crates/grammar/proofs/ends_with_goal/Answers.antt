@@ -2,7 +2,7 @@
 use mathlib.Core.Path.{sym, ◌∙◌}
 use native.Mathlib.Omega.{arith}
 use Rattle.spelling.specs.Codes.{query_code, dot_code}
-use Rattle.grammar.specs.PlaceLaws.{word_among, no_query, no_dot, at_dot}
+use Rattle.grammar.proofs.PlaceLaws.{word_among, no_query, no_dot, at_dot}
 use Rattle.grammar.proofs.ends_with_goal.Goals as goal
 
 pub returns-then-code_at-ne-QUERY : goal.returns-then-code_at-ne-QUERY

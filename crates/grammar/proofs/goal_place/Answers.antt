@@ -3,7 +3,7 @@ use mathlib.Core.Path.{sym, ap, ◌∙◌}
 use native.Mathlib.Omega.{arith}
 use Rattle.base.specs.Bools.{choose_true, choose_false}
 use Rattle.grammar.specs.Places.{goal_from, goal_place}
-use Rattle.grammar.specs.PlaceLaws.{goal_among}
+use Rattle.grammar.proofs.PlaceLaws.{goal_among}
 use Rattle.grammar.proofs.goal_place.Goals as goal
 
 pub overflow_add-result : goal.overflow_add-result

@@ -3,7 +3,7 @@ use Prim.Native.Nat.{◌-◌}
 use lib.ListN.{length}
 use Rattle.spelling.specs.Codes.{comma_code}
 use Rattle.grammar.specs.Places.{literal_end}
-use Rattle.grammar.specs.PlaceLaws.{Onward}
+use Rattle.grammar.proofs.PlaceLaws.{Onward}
 use Rattle.grammar.proofs.literals_end.Given as given
 
 abbrev pub invariant-loop-at : given.invariant-loop-at

@@ -2,7 +2,7 @@
 use mathlib.Core.Path.{sym}
 use native.Mathlib.Omega.{arith}
 use Rattle.grammar.specs.Places.{name_end}
-use Rattle.grammar.specs.PlaceLaws.{among, named, nameless}
+use Rattle.grammar.proofs.PlaceLaws.{among, named, nameless}
 use Rattle.grammar.proofs.name_end.Goals as goal
 
 pub overflow_add-result : goal.overflow_add-result

@@ -3,7 +3,7 @@ use mathlib.Core.Path.{sym, ◌∙◌}
 use native.Mathlib.Omega.{arith}
 use Rattle.spelling.specs.Codes.{true_code}
 use Rattle.grammar.specs.Places.{side_end}
-use Rattle.grammar.specs.PlaceLaws.{word_among, stood, astray}
+use Rattle.grammar.proofs.PlaceLaws.{word_among, stood, astray}
 use Rattle.grammar.proofs.side_end.Goals as goal
 
 pub overflow_add-result : goal.overflow_add-result

@@ -4,7 +4,7 @@ use Prim.Native.Nat.{ℕ}
 use native.Mathlib.Omega.{arith}
 use Rattle.spelling.specs.Codes.{dot_code, neck_code}
 use Rattle.grammar.specs.Places.{word_end, body_end, from_head, statement_end}
-use Rattle.grammar.specs.PlaceLaws.{word_among, stood, astray}
+use Rattle.grammar.proofs.PlaceLaws.{word_among, stood, astray}
 use Rattle.grammar.proofs.statement_end.Goals as goal
 
 pub overflow_add-result : goal.overflow_add-result

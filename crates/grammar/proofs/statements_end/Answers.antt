@@ -1,7 +1,7 @@
 -- `grammar::statements_end` meets its contract. Assumes nothing.
 use mathlib.Core.Path.{sym, ◌∙◌, subst}
 use native.Mathlib.Omega.{arith}
-use Rattle.grammar.specs.PlaceLaws.{code_there, statement_forward, Passed, passed_start, passed_less, passed_more, passed_goal, passed_end}
+use Rattle.grammar.proofs.PlaceLaws.{code_there, statement_forward, Passed, passed_start, passed_less, passed_more, passed_goal, passed_end}
 use Rattle.grammar.proofs.statements_end.Goals as goal
 
 pub loop-at-init : goal.loop-at-init

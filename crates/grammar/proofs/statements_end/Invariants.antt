@@ -1,7 +1,7 @@
 -- `grammar::statements_end` meets its contract. Assumes nothing.
 use Prim.Native.Nat.{◌-◌, ◌≤◌}
 use lib.ListN.{length}
-use Rattle.grammar.specs.PlaceLaws.{Passed}
+use Rattle.grammar.proofs.PlaceLaws.{Passed}
 use Rattle.grammar.proofs.statements_end.Given as given
 
 abbrev pub invariant-loop-at : given.invariant-loop-at

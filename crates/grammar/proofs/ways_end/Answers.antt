@@ -3,7 +3,7 @@ use mathlib.Core.Path.{sym, ◌∙◌, subst}
 use native.Mathlib.Omega.{arith}
 use Rattle.spelling.specs.Codes.{semicolon_code}
 use Rattle.grammar.specs.Places.{literals_end, ways_end}
-use Rattle.grammar.specs.PlaceLaws.{word_among, literals_forward, Onward, onward_start, onward_less, onward_more, onward_done}
+use Rattle.grammar.proofs.PlaceLaws.{word_among, literals_forward, Onward, onward_start, onward_less, onward_more, onward_done}
 use Rattle.grammar.proofs.ways_end.Goals as goal
 
 pub loop-at-init : goal.loop-at-init

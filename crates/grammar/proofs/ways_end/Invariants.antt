@@ -3,7 +3,7 @@ use Prim.Native.Nat.{◌-◌}
 use lib.ListN.{length}
 use Rattle.spelling.specs.Codes.{semicolon_code}
 use Rattle.grammar.specs.Places.{literals_end}
-use Rattle.grammar.specs.PlaceLaws.{Onward}
+use Rattle.grammar.proofs.PlaceLaws.{Onward}
 use Rattle.grammar.proofs.ways_end.Given as given
 
 abbrev pub invariant-loop-at : given.invariant-loop-at

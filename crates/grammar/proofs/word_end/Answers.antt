@@ -2,7 +2,7 @@
 use mathlib.Core.Path.{sym, ◌∙◌}
 use native.Mathlib.Omega.{arith}
 use Rattle.grammar.specs.Places.{word_end}
-use Rattle.grammar.specs.PlaceLaws.{word_among, stood, astray}
+use Rattle.grammar.proofs.PlaceLaws.{word_among, stood, astray}
 use Rattle.grammar.proofs.word_end.Goals as goal
 
 pub overflow_add-result : goal.overflow_add-result
