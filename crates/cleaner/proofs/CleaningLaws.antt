@@ -16,7 +16,7 @@ use Rattle.image.specs.Encode.{longest_image, longest_image_lem}
 use Rattle.admitting.specs.paper.Promise.{InSome}
 use Rattle.engine.specs.paper.Verdict.{Explainable}
 use Rattle.groups.specs.paper.Group.{observed, is_defined, with_facts, group_image}
-use Rattle.groups.specs.GroupLaws.{group_of_image}
+use Rattle.groups.proofs.GroupLaws.{group_of_image}
 use Rattle.groups.specs.Writes.{Writable, WroteGroup}
 use Rattle.cleaner.specs.declared.Cleaning.{Cleaning}
 use Rattle.cleaner.specs.declared.Cleaning.TheVariants.{Deleted, Refused}

@@ -13,7 +13,8 @@ use Rattle.base.specs.Lists.{here}
 use Rattle.base.specs.paper.Members.{has}
 use Rattle.image.specs.paper.Faults.{limits}
 use Rattle.image.specs.paper.Decode.{Decoded}
-use Rattle.image.specs.Accepted.{book_in, within, orderly}
+use Rattle.image.specs.Accepted.{book_in, within}
+use Rattle.image.proofs.Accepted.{orderly}
 use Rattle.sets.specs.paper.Kept.{zeros}
 use Rattle.sets.specs.SetLaws.{within_has}
 use Rattle.area.specs.paper.Work.{work_numbers}

@@ -19,7 +19,8 @@ use Rattle.image.specs.paper.Book.{Book}
 use Rattle.image.specs.Sound.{Orderly}
 use Rattle.image.specs.paper.Faults.{limits}
 use Rattle.image.specs.paper.Decode.{Decoded, accepted, decode}
-use Rattle.image.specs.Accepted.{IsBook, book_in, book_in_lem, within, orderly}
+use Rattle.image.specs.Accepted.{IsBook, book_in, book_in_lem, within}
+use Rattle.image.proofs.Accepted.{orderly}
 use Rattle.sets.specs.paper.Kept.{zeros}
 use Rattle.area.specs.paper.Work.{work_numbers}
 use Rattle.searching.specs.paper.Rules.{root, Outcome, finished, used_up, no_room, run_from, sent}
