@@ -165,7 +165,7 @@ def main():
         path.write_text(turn(text, table, "--", foreign(text)))
     for path in sorted((TOP / "crates").glob("*/src/**/*.rt")):
         text = path.read_text()
-        path.write_text(turn(text, table, "//", foreign(text)))
+        path.write_text(turn(text, table, "//", foreign(text) | set(LEMMAS)))
     unturned = table | {name: snake(name) for name in TURNED}
     for path in sorted((TOP / "crates").glob("*/must-fail/*.edit")):
         lines = path.read_text().splitlines(keepends=True)

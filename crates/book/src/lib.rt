@@ -2,7 +2,6 @@
 // work on the image as lent, and crate image says where in it each part of an accepted book stands.
 #![tactic(auto)]
 
-
 ghost use Rattle.book.specs.paper.Reading.{Reads};
 
 use faults::fields::Taken;

@@ -2,7 +2,6 @@
 // the bodies of what is marked, and so on, until the head is marked itself or a round over the clauses marks nothing more.
 #![tactic(auto)]
 
-
 ghost use Rattle.std.specs.Prelude.{◌≡◌, ℕ, ◌<◌};
 ghost use Rattle.image.specs.paper.Book.{Book};
 ghost use Rattle.image.specs.paper.Front.{atoms_at};

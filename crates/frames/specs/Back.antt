@@ -149,7 +149,7 @@ module _ (image : List ℕ) (book : Book) (tab : ℕ → ℕ) (work : List ℕ) 
   word_bare : (i : ℕ) → i < layout.frame_width → frame bare level i ≡ frame work level i
   word_bare i q = same (frame_at level + i) (omega arith) (omega arith)
 
-  module _ (base : ℕ) (sheet : List Lit) (ground : Ground image book tab) (trail : Trail bare base sheet) (area : Tabled tab bare sheet) where
+  module _ (base : ℕ) (sheet : List Lit) (grounded : Ground image book tab) (trail : Trail bare base sheet) (area : Tabled tab bare sheet) where
     few_marks : base ≤ limits.atoms
     few_marks = trail_few trail
 
@@ -173,7 +173,7 @@ module _ (image : List ℕ) (book : Book) (tab : ℕ → ℕ) (work : List ℕ) 
       used = used;
       sheet = sheet;
       due = due;
-      ground = ground;
+      grounded = grounded;
       area = tabled_same (length-set bare (frame_at level + way_at) (tab (frame_way work level + 1))) (λ j p q. get_or-set_other bare (frame_at level + way_at) j (tab (frame_way work level + 1)) 0 (λ z. omega (arith, z))) area;
       trail = trail_same (λ j p. get_or-set_other bare (frame_at level + way_at) (entry_at j + layout.cell_width) (tab (frame_way work level + 1)) 0 (λ z. omega (arith, z, few_marks))) trail;
       held = h;
@@ -207,29 +207,29 @@ module _ (image : List ℕ) (book : Book) (tab : ℕ → ℕ) (work : List ℕ) 
   -- the last way: the frame goes
   pop_holds : (base : ℕ) (sheet : List Lit) (due : List Node) → Ground image book tab → Trail bare base sheet → Tabled tab bare sheet → Top image book tab work level base sheet due → tab (frame_way work level + 1) ≡ layout.no_link
       → Holds image book over_written (back_run bare level run (entry_at base) (frame_at level) (tab (frame_way work level))) due
-  pop_holds base sheet due ground trail area (proved {m = n} {used} {due = below} {rest} {ls} {lss} fr ag fs u h) z =
-      popped base sheet ground trail area used rest ls lss below z fr (older u (leads_same image book tab (λ j p q. entries base sheet ground trail area j p (omega arith)) ag)) fs h
-  pop_holds base sheet due ground trail area (picked {used = used} {due = below} {rest} {ls} {lss} fr free fs h) z =
-      popped base sheet ground trail area used rest ls lss below z fr (back_free image book tab used (le_refl base) (entries base sheet ground trail area) free) fs h
+  pop_holds base sheet due grounded trail area (proved {m = n} {used} {due = below} {rest} {ls} {lss} fr ag fs u h) z =
+      popped base sheet grounded trail area used rest ls lss below z fr (older u (leads_same image book tab (λ j p q. entries base sheet grounded trail area j p (omega arith)) ag)) fs h
+  pop_holds base sheet due grounded trail area (picked {used = used} {due = below} {rest} {ls} {lss} fr free fs h) z =
+      popped base sheet grounded trail area used rest ls lss below z fr (back_free image book tab used (le_refl base) (entries base sheet grounded trail area) free) fs h
 
   -- another way is left: the frame stays
   keep_holds : (base : ℕ) (sheet : List Lit) (due : List Node) → Ground image book tab → Trail bare base sheet → Tabled tab bare sheet → Top image book tab work level base sheet due → (tab (frame_way work level + 1) ≡ layout.no_link → ⊥)
       → Holds image book over_written (back_run bare level run (entry_at base) (frame_at (suc level)) (tab (frame_way work level))) due
-  keep_holds base sheet due ground trail area (proved {m = n} {used} {due = below} {rest} {ls} {lss = []} fr ag fs u h) nz = absurd (nz (chain_empty (chain_ahead fr.ways).others))
-  keep_holds base sheet due ground trail area (proved {m = n} {used} {due = below} {rest} {ls} {lss = l2 ∷ lss} fr ag fs u h) nz =
-      let ag' : Leads image book tab over_written n (frame_agenda work level) rest = leads_same image book tab (λ j p q. entries base sheet ground trail area j p (omega arith)) ag in
+  keep_holds base sheet due grounded trail area (proved {m = n} {used} {due = below} {rest} {ls} {lss = []} fr ag fs u h) nz = absurd (nz (chain_empty (chain_ahead fr.ways).others))
+  keep_holds base sheet due grounded trail area (proved {m = n} {used} {due = below} {rest} {ls} {lss = l2 ∷ lss} fr ag fs u h) nz =
+      let ag' : Leads image book tab over_written n (frame_agenda work level) rest = leads_same image book tab (λ j p q. entries base sheet grounded trail area j p (omega arith)) ag in
       let room : frame_at level + way_at < length bare = omega (arith, area.long) in
-      built base sheet ground trail area (suc level) n rest ls (by_ways rest sheet (l2 ∷ lss) ++ below) (set_same base sheet ground trail area fr)
-      (proving (frame_next base sheet ground trail area ls (l2 ∷ lss) fr room)
-      (leads_at image book tab (same_agenda work over_written level word_stays) ag') (every_rest fs) u (held_stays base sheet ground trail area h))
+      built base sheet grounded trail area (suc level) n rest ls (by_ways rest sheet (l2 ∷ lss) ++ below) (set_same base sheet grounded trail area fr)
+      (proving (frame_next base sheet grounded trail area ls (l2 ∷ lss) fr room)
+      (leads_at image book tab (same_agenda work over_written level word_stays) ag') (every_rest fs) u (held_stays base sheet grounded trail area h))
       (older (le_refl n) ag') (chain_ahead fr.ways).first (every_first fs)
-  keep_holds base sheet due ground trail area (picked {used = used} {due = below} {rest} {ls} {lss = []} fr free fs h) nz = absurd (nz (chain_empty (chain_ahead fr.ways).others))
-  keep_holds base sheet due ground trail area (picked {used = used} {due = below} {rest} {ls} {lss = l2 ∷ lss} fr free fs h) nz =
+  keep_holds base sheet due grounded trail area (picked {used = used} {due = below} {rest} {ls} {lss = []} fr free fs h) nz = absurd (nz (chain_empty (chain_ahead fr.ways).others))
+  keep_holds base sheet due grounded trail area (picked {used = used} {due = below} {rest} {ls} {lss = l2 ∷ lss} fr free fs h) nz =
       let room : frame_at level + way_at < length bare = omega (arith, area.long) in
-      built base sheet ground trail area (suc level) base rest ls (by_ways rest sheet (l2 ∷ lss) ++ below) (set_same base sheet ground trail area fr)
-      (picking (frame_next base sheet ground trail area ls (l2 ∷ lss) fr room)
-      (free_at image book tab (same_agenda work over_written level word_stays) (keep_free image book tab (le_refl base) (entries base sheet ground trail area) free)) (every_rest fs) (held_stays base sheet ground trail area h))
-      (back_free image book tab base (le_refl base) (entries base sheet ground trail area) free) (chain_ahead fr.ways).first (every_first fs)
+      built base sheet grounded trail area (suc level) base rest ls (by_ways rest sheet (l2 ∷ lss) ++ below) (set_same base sheet grounded trail area fr)
+      (picking (frame_next base sheet grounded trail area ls (l2 ∷ lss) fr room)
+      (free_at image book tab (same_agenda work over_written level word_stays) (keep_free image book tab (le_refl base) (entries base sheet grounded trail area) free)) (every_rest fs) (held_stays base sheet grounded trail area h))
+      (back_free image book tab base (le_refl base) (entries base sheet grounded trail area) free) (chain_ahead fr.ways).first (every_first fs)
 
 -- ---- as the code does it
 
@@ -328,7 +328,7 @@ module _ {image : List ℕ} {book : Book} {work : List ℕ} {run : Run} {all : L
                 subst (λ (l : List Node). Holds image book (set bare (run.top - layout.frame_width + way_at) more) (giving (lowered (restoring bare run (run.top - layout.frame_width) down) (run.top - layout.frame_width)) LIST list) l) (sym all_due)
                 (subst₂ (λ (l : List ℕ) (o : Run). Holds image book l o memory.due) (sym written)
                 (sym (run_popped bare run (run.top - layout.frame_width) down list (memory.height - 1) (entry_at peeled.base) (frame_at (memory.height - 1)) (memory.tab (frame_way work (memory.height - 1))) place down_is list_is place))
-                (pop_holds image book memory.tab work (memory.height - 1) run bare bare_same places.3 peeled.base peeled.sheet memory.due memory.ground bare_trail bare_area peeled.top (sym more_is ∙ z)))
+                (pop_holds image book memory.tab work (memory.height - 1) run bare bare_same places.3 peeled.base peeled.sheet memory.due memory.grounded bare_trail bare_area peeled.top (sym more_is ∙ z)))
 
             back_keeps : (more ≡ layout.no_link → ⊥) → Holds image book (set bare (run.top - layout.frame_width + way_at) more) (giving (restoring bare run (run.top - layout.frame_width) down) LIST list) all
             back_keeps nz =
@@ -336,7 +336,7 @@ module _ {image : List ℕ} {book : Book} {work : List ℕ} {run : Run} {all : L
                 subst (λ (l : List Node). Holds image book (set bare (run.top - layout.frame_width + way_at) more) (giving (restoring bare run (run.top - layout.frame_width) down) LIST list) l) (sym all_due)
                 (subst₂ (λ (l : List ℕ) (o : Run). Holds image book l o memory.due) (sym written)
                 (sym (run_back bare run (run.top - layout.frame_width) down list (memory.height - 1) (entry_at peeled.base) (frame_at (suc (memory.height - 1))) (memory.tab (frame_way work (memory.height - 1))) place down_is list_is high))
-                (keep_holds image book memory.tab work (memory.height - 1) run bare bare_same places.3 peeled.base peeled.sheet memory.due memory.ground bare_trail bare_area peeled.top (λ z. nz (more_is ∙ z))))
+                (keep_holds image book memory.tab work (memory.height - 1) run bare bare_same places.3 peeled.base peeled.sheet memory.due memory.grounded bare_trail bare_area peeled.top (λ z. nz (more_is ∙ z))))
 
 module _ (work : List ℕ) (run : Run) (pre : StandingIn work run FAILED) where
   failing : run.state ≡ FAILED

@@ -91,7 +91,7 @@ module _ {image : List ℕ} {book : Book} {work : List ℕ} {run : Run} {all : L
   way_pushable =
       let v = taking in
       let few : memory.marks ≤ limits.atoms = trail_few memory.trail in
-      let sm = free_small memory.ground few v.free in
+      let sm = free_small memory.grounded few v.free in
       let deep : suc memory.height ≤ layout.most_frames = omega (arith, (every_first v.fines).0) in
       record {
         layable = record { low = omega (arith, memory.marked); high = omega (arith, memory.marked); long = memory.area.long; at = sm.0; end = sm.1; link = omega (arith, sm.2) };
@@ -158,7 +158,7 @@ module _ {image : List ℕ} {book : Book} {work : List ℕ} {run : Run} {all : L
         used = used;
         sheet = memory.sheet;
         due = xs;
-        ground = memory.ground;
+        grounded = memory.grounded;
         area = tabled_same (pushed_length work run (get_or work (run.task + 1) 0)) (λ j p q. same j p (omega arith)) memory.area;
         trail = trail_same (λ j p. same (entry_at j + layout.cell_width) (omega arith) (omega (arith, trail_few t))) t;
         held = hd;

@@ -1,7 +1,6 @@
 // The judge: paper 01, 6. It works on the lent image itself; the meaning is crate meaning's.
 #![tactic(auto)]
 
-
 pub mod constraints;
 pub mod values;
 

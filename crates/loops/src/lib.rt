@@ -3,7 +3,6 @@
 // atoms are let go, until none is held, and the book has no loop, or a round lets none go.
 #![tactic(auto)]
 
-
 ghost use Rattle.std.specs.Prelude.{◌≡◌, ◌||◌, ℕ, ◌≤◌, ◌<◌, length};
 ghost use Rattle.image.specs.paper.Book.{Book};
 ghost use Rattle.image.specs.paper.Front.{atoms_at};
@@ -38,7 +37,7 @@ pub fn mark_body(part: &[u8], already: Marks) -> Marks
 }
 
 // Whether the body of one clause, lent so, has a marked atom.
-fn names_marked_lem(part: &[u8], all: Marks) -> bool
+fn names_marked(part: &[u8], all: Marks) -> bool
     requires { (2 ≤ length part.now) × Small (clause_in part.now) }
     ensures { result ≡ names_marked (marked all) (clause_in part.now) }
 {
@@ -67,7 +66,7 @@ fn descends(image: &[u8], first: usize, many: u32) -> bool
         let end = inside + fields::field_at(image, at) as usize;
         if inside + 2 < end {
             heads = with_mark(heads, fields::field_at(image, inside));
-            if names_marked_lem(&image[inside..end], heads) {
+            if names_marked(&image[inside..end], heads) {
                 return false;
             }
         }
@@ -115,7 +114,7 @@ fn round(image: &[u8], first: usize, many: u32, held: Marks) -> Marks
     while i < many {
         let inside = at + 2;
         let end = inside + fields::field_at(image, at) as usize;
-        if names_marked_lem(&image[inside..end], all) {
+        if names_marked(&image[inside..end], all) {
             let head = fields::field_at(image, inside);
             if is_marked(held, head) {
                 left = with_mark(left, head);

@@ -55,7 +55,7 @@ module _ (image work work' : List ℕ) (filled : Filled image work work') (claus
   agenda : Leads image its (of work') work' 0 (root_agenda clauses) (map want its.goal ++ map keep its.constraints)
   unfolding clause_count_at
   agenda =
-      let sh : Shown image its = shown image its filled.ground.book in
+      let sh : Shown image its = shown image its filled.grounded.book in
       go clauses its.goal (is-clauses ∙ ap (λ (n : ℕ). goal_at + 2 * n) sh.goals) sh.goal
     where
       go : (end : ℕ) (ls : List Lit) → end ≡ goal_at + 2 * length ls → Stands image goal_at (of_lits ls)
@@ -78,8 +78,8 @@ module _ (image work work' : List ℕ) (filled : Filled image work work') (claus
 
   root_fine : Fine its 0 (root its)
   root_fine =
-      let fine : Within limits its = within image its filled.ground.book in
-      (omega (arith, root_frames its, fine.constraints, fine.atoms, fine.clauses), root_named its (orderly image its filled.ground.book))
+      let fine : Within limits its = within image its filled.grounded.book in
+      (omega (arith, root_frames its, fine.constraints, fine.atoms, fine.clauses), root_named its (orderly image its filled.grounded.book))
 
   root_holds : Holds image its work' (root_run clauses) (root its ∷ [])
   root_holds = record {
@@ -89,7 +89,7 @@ module _ (image work work' : List ℕ) (filled : Filled image work work') (claus
     used = 0;
     sheet = [];
     due = [];
-    ground = filled.ground;
+    grounded = filled.grounded;
     area = filled.area;
     trail = Trail.none;
     held = bottom;
@@ -102,8 +102,8 @@ module _ (image work work' : List ℕ) (filled : Filled image work work') (claus
   -- a hypothesis is in hand as the task, and the root's agenda behind it
   with_fine : (h : ℕ) → h < its.abducibles → Fine its 0 (root_with its h)
   with_fine h p =
-      let fine : Within limits its = within image its filled.ground.book in
-      (omega (arith, with_frames its h, fine.constraints, fine.atoms, fine.clauses), with_named its (orderly image its filled.ground.book) h p)
+      let fine : Within limits its = within image its filled.grounded.book in
+      (omega (arith, with_frames its h, fine.constraints, fine.atoms, fine.clauses), with_named its (orderly image its filled.grounded.book) h p)
 
   with_holds : (h : ℕ) → h < its.abducibles → Holds image its work' (giving (root_run clauses) TASK (2 * h)) (root_with its h ∷ [])
   unfolding root_holds
@@ -115,7 +115,7 @@ module _ (image work work' : List ℕ) (filled : Filled image work work') (claus
       even = omega arith
 
       fine : Within limits its
-      fine = within image its filled.ground.book
+      fine = within image its filled.grounded.book
 
       go : (task : ℕ) → lit_of task ≡ pos h → task < layout.literal_numbers
           → Hand image its (of work') work' 0 0 0 [] [] task (root_agenda clauses) TASK (root_with its h ∷ [])

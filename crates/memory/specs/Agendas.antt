@@ -63,12 +63,12 @@ pub own_apart : {image : List ℕ} {tab : ℕ → ℕ} {at end : ℕ} {ts : List
 own_apart (lits n e l) i = omega arith
 own_apart (records z (record_at p q c k u)) i = omega arith
 
-module _ {image : List ℕ} {book : Book} {tab : ℕ → ℕ} (ground : Ground image book tab) where
+module _ {image : List ℕ} {book : Book} {tab : ℕ → ℕ} (grounded : Ground image book tab) where
   few : length image ≤ longest_image
-  few = longest_image_lem image book ground.book
+  few = longest_image_lem image book grounded.book
 
   constraints_few : length book.constraints ≤ limits.constraints
-  constraints_few = (within image book ground.book).constraints
+  constraints_few = (within image book grounded.book).constraints
 
   pub tail_small : {work : List ℕ} {m l : ℕ} {us : List Task} → m ≤ limits.atoms → Tail image book tab work m l us → l + 2 < layout.end
   tail_small h (constraints_from k q) = omega (arith, constraints_few)

@@ -43,7 +43,7 @@ module _ {image : List ℕ} {book : Book} {work : List ℕ} {run : Run} {all : L
   enter_layable =
       let v = list_ahead in
       let few : memory.marks ≤ limits.atoms = trail_few memory.trail in
-      let sm = free_small memory.ground few v.free in
+      let sm = free_small memory.grounded few v.free in
       record { low = omega (arith, memory.marked); high = omega (arith, memory.marked); long = memory.area.long; at = sm.0; end = sm.1; link = omega (arith, sm.2) }
 
   pub enter_literal : run.task < layout.literal_numbers → Holds image book work (in_state run TASK) all
@@ -103,7 +103,7 @@ module _ {image : List ℕ} {book : Book} {work : List ℕ} {run : Run} {all : L
                   used = memory.used;
                   sheet = memory.sheet;
                   due = memory.due;
-                  ground = memory.ground;
+                  grounded = memory.grounded;
                   area = dn.area;
                   trail = dn.trail;
                   held = dn.held;

@@ -39,22 +39,22 @@ drop_next : {A : Type 0} (k : ℕ) (l : List A) (a : A) (t : List A) → drop k 
 drop_next k l a t e =
     (sym (drop-drop 1 k l) ∙ ap (drop 1) e, omega (arith, length-drop k l, ap length e))
 
-module _ {image : List ℕ} {book : Book} {tab : ℕ → ℕ} {work : List ℕ} {sheet : List Lit} (marks : ℕ) (ground : Ground image book tab) (tabled : Tabled tab work sheet) where
+module _ {image : List ℕ} {book : Book} {tab : ℕ → ℕ} {work : List ℕ} {sheet : List Lit} (marks : ℕ) (grounded : Ground image book tab) (tabled : Tabled tab work sheet) where
   constraints_few : length book.constraints ≤ limits.constraints
-  constraints_few = (within image book ground.book).constraints
+  constraints_few = (within image book grounded.book).constraints
 
   open_constraints : (k : ℕ) → k ≤ length book.constraints
       → Open image book tab work marks (cell_agenda work (layout.cell_from k)) (map keep (drop k book.constraints))
   open_constraints k h = go (drop k book.constraints) refl
     where
       e0 : get_or work (layout.cell_from k) 0 ≡ layout.constraint_record k
-      e0 = tabled.tabled (layout.cell_from k) (omega arith) (omega (arith, constraints_few)) ∙ (ground.cell k h).0
+      e0 = tabled.tabled (layout.cell_from k) (omega arith) (omega (arith, constraints_few)) ∙ (grounded.cell k h).0
 
       e1 : get_or work (layout.cell_from k + 1) 0 ≡ 0
-      e1 = tabled.tabled (layout.cell_from k + 1) (omega arith) (omega (arith, constraints_few)) ∙ (ground.cell k h).1
+      e1 = tabled.tabled (layout.cell_from k + 1) (omega arith) (omega (arith, constraints_few)) ∙ (grounded.cell k h).1
 
       e2 : get_or work (layout.cell_from k + 2) 0 ≡ layout.cell_from (k + 1)
-      e2 = tabled.tabled (layout.cell_from k + 2) (omega arith) (omega (arith, constraints_few)) ∙ (ground.cell k h).2
+      e2 = tabled.tabled (layout.cell_from k + 2) (omega arith) (omega (arith, constraints_few)) ∙ (grounded.cell k h).2
 
       moved : {ts : List Task} → Open image book tab work marks (record_agenda (layout.constraint_record k) (layout.cell_from (k + 1))) ts → Open image book tab work marks (cell_agenda work (layout.cell_from k)) ts
       moved {ts} o = subst (λ (c : Agenda). Open image book tab work marks c ts) (sym (agenda_is e0 e1 e2)) o
@@ -63,11 +63,11 @@ module _ {image : List ℕ} {book : Book} {tab : ℕ → ℕ} {work : List ℕ} 
           → Open image book tab work marks (cell_agenda work (layout.cell_from k)) (map keep cs)
       go [] e =
           let all : k ≡ length book.constraints = omega (arith, drop_empty k book.constraints e) in
-          moved (over refl (omega arith) (omega (arith, constraints_few)) (ap (λ (n : ℕ). tab (layout.constraint_record n)) all ∙ ground.last))
+          moved (over refl (omega arith) (omega (arith, constraints_few)) (ap (λ (n : ℕ). tab (layout.constraint_record n)) all ∙ grounded.last))
       go (c ∷ cs) e =
           let n = drop_next k book.constraints c cs e in
           moved
-          (tasks (records refl (ground.constraint k c cs e))
+          (tasks (records refl (grounded.constraint k c cs e))
           (subst (λ (l : List Constraint). Tail image book tab work marks (layout.cell_from (k + 1)) (map keep l)) n.0 (constraints_from (k + 1) (omega (arith, n.1)))))
 
   open_tail : {link : ℕ} {us : List Task} → Tail image book tab work marks link us → Open image book tab work marks (cell_agenda work link) us
@@ -84,7 +84,7 @@ module _ {image : List ℕ} {book : Book} {tab : ℕ → ℕ} {work : List ℕ} 
   refilled_open run q {ts} (more o t) (as_is p f) = subst (λ (x : Run). Open image book tab work marks x.agenda ts) (sym f) (tasks o t)
 
   open_safe : {a : Agenda} {ts : List Task} → Open image book tab work marks a ts → (a.at < a.end → a.at + 2 ≤ length image) × (a.at + 1 < layout.end)
-  open_safe (tasks (lits n e l) t) = (λ h. omega arith, omega (arith, longest_image_lem image book ground.book))
+  open_safe (tasks (lits n e l) t) = (λ h. omega arith, omega (arith, longest_image_lem image book grounded.book))
   open_safe (tasks (records z (Records.record_at p q c k u)) t) = (λ h. absurd (omega arith), omega arith)
   open_safe (over e p q c) = (λ h. absurd (omega arith), omega arith)
 
@@ -98,7 +98,7 @@ module _ {image : List ℕ} {book : Book} {tab : ℕ → ℕ} {work : List ℕ} 
   open_lit (tasks {at = at} {end} {us = us} (lits zero e l) t) h = record {
     rest = us;
     is = refl;
-    behind = let there : at + 2 ≡ end = omega arith in let low : at + 2 < layout.places = omega (arith, longest_image_lem image book ground.book) in linked there low t;
+    behind = let there : at + 2 ≡ end = omega arith in let low : at + 2 < layout.places = omega (arith, longest_image_lem image book grounded.book) in linked there low t;
   }
   open_lit (tasks {at = at} {end} {us = us} (lits (suc n) e l) t) h = record {
     rest = map want (lits_at image (at + 2) (suc n)) ++ us;
@@ -144,10 +144,10 @@ module _ {image : List ℕ} {book : Book} {work : List ℕ} {run run' : Run} {al
   opening = go (in_hand memory st) refl
     where
       go : {xs : List Node} → HandIn memory AGENDA run.task run.agenda xs → all ≡ xs → Opened
-      go (agenda {ts} a fn) i = record { ts = ts; opened = refilled_open memory.marks memory.ground memory.area run run' a refilled; is_fine = fn; is = i }
+      go (agenda {ts} a fn) i = record { ts = ts; opened = refilled_open memory.marks memory.grounded memory.area run run' a refilled; is_fine = fn; is = i }
 
   front_safe : (run'.agenda.at < run'.agenda.end → run'.agenda.at + 2 ≤ length image) × (run'.agenda.at + 1 < layout.end) × (layout.Long work)
-  front_safe = let o = open_safe memory.marks memory.ground memory.area opening.opened in (o.0, o.1, memory.area.long)
+  front_safe = let o = open_safe memory.marks memory.grounded memory.area opening.opened in (o.0, o.1, memory.area.long)
 
   keeps : (run'.set ≡ run.set) × (run'.marked ≡ run.marked) × (run'.top ≡ run.top) × (run'.nodes ≡ run.nodes) × (run'.count ≡ run.count)
   keeps = refilled_keeps work run run' refilled
@@ -155,19 +155,19 @@ module _ {image : List ℕ} {book : Book} {work : List ℕ} {run run' : Run} {al
   lit_holds : run'.agenda.at < run'.agenda.end → Holds image book work (taking run' (field_at image run'.agenda.at) (run'.agenda.at + 2)) all
   lit_holds l =
       let o = opening in
-      let t = open_lit memory.marks memory.ground memory.area o.opened l in
+      let t = open_lit memory.marks memory.grounded memory.area o.opened l in
       let fn : Fine book memory.height (node_of (want (lit_of (field_at image run'.agenda.at)) ∷ t.rest) memory.sheet) =
       subst (λ (ts : List Task). Fine book memory.height (node_of ts memory.sheet)) t.is o.is_fine in
-      let small : field_at image run'.agenda.at < layout.literal_numbers = omega (arith, every_first fn.1, (within image book memory.ground.book).atoms) in
+      let small : field_at image run'.agenda.at < layout.literal_numbers = omega (arith, every_first fn.1, (within image book memory.grounded.book).atoms) in
       with_hand memory (taking run' (field_at image run'.agenda.at) (run'.agenda.at + 2)) keeps.0 keeps.1 keeps.2
       (subst (HandOf memory (taking run' (field_at image run'.agenda.at) (run'.agenda.at + 2)))
       (sym (o.is ∙ ap (λ (ts : List Task). node_of ts memory.sheet ∷ memory.due) t.is))
       (literal small t.behind fn))
 
   record_holds : run'.agenda.end ≤ run'.agenda.at → Holds image book work (taking run' run'.agenda.at (memory.tab (run'.agenda.at + 1))) all
-  record_holds l = go (open_record memory.marks memory.ground memory.area opening.opened l)
+  record_holds l = go (open_record memory.marks memory.grounded memory.area opening.opened l)
     where
-      go : FirstRecord memory.marks memory.ground memory.area run'.agenda opening.ts → Holds image book work (taking run' run'.agenda.at (memory.tab (run'.agenda.at + 1))) all
+      go : FirstRecord memory.marks memory.grounded memory.area run'.agenda opening.ts → Holds image book work (taking run' run'.agenda.at (memory.tab (run'.agenda.at + 1))) all
       go (picks lss rest i p k c fr) =
           with_hand memory (taking run' run'.agenda.at (memory.tab (run'.agenda.at + 1))) keeps.0 keeps.1 keeps.2
           (subst (HandOf memory (taking run' run'.agenda.at (memory.tab (run'.agenda.at + 1))))
@@ -181,9 +181,9 @@ module _ {image : List ℕ} {book : Book} {work : List ℕ} {run run' : Run} {al
 
   -- the next record's number stands in the tables
   next_record : run'.agenda.end ≤ run'.agenda.at → get_or work (run'.agenda.at + 1) 0 ≡ memory.tab (run'.agenda.at + 1)
-  next_record l = go (open_record memory.marks memory.ground memory.area opening.opened l)
+  next_record l = go (open_record memory.marks memory.grounded memory.area opening.opened l)
     where
-      go : FirstRecord memory.marks memory.ground memory.area run'.agenda opening.ts → get_or work (run'.agenda.at + 1) 0 ≡ memory.tab (run'.agenda.at + 1)
+      go : FirstRecord memory.marks memory.grounded memory.area run'.agenda opening.ts → get_or work (run'.agenda.at + 1) 0 ≡ memory.tab (run'.agenda.at + 1)
       go (picks lss rest i p k c fr) = memory.area.tabled (run'.agenda.at + 1) (omega arith) (omega arith)
       go (ends i p k c) = memory.area.tabled (run'.agenda.at + 1) (omega arith) (omega arith)
 
@@ -193,7 +193,7 @@ module _ (image work : List ℕ) (run : Run) (pre : Standing image work run AGEN
   link_small = go (in_hand pre.holds pre.state)
     where
       go : {xs : List Node} → HandIn pre.holds AGENDA run.task run.agenda xs → (run.agenda.link + 2 < length work) × (run.agenda.link < layout.end)
-      go (agenda a f) = let sm = leads_small pre.holds.ground (trail_few pre.holds.trail) a in (omega (arith, sm.2, pre.holds.area.long), omega (arith, sm.2))
+      go (agenda a f) = let sm = leads_small pre.holds.grounded (trail_few pre.holds.trail) a in (omega (arith, sm.2, pre.holds.area.long), omega (arith, sm.2))
 
   module _ (run' : Run) (refilled : Refilled work run run') where
     pub open_places : (run'.agenda.at < run'.agenda.end → run'.agenda.at + 2 ≤ length image) × (run'.agenda.at + 1 < layout.end) × (layout.Long work)

@@ -119,7 +119,7 @@ pub record Holds (image : List ℕ) (b : Book) (work : List ℕ) (run : Run) (al
   pub used : ℕ
   pub sheet : List Lit
   pub due : List Node
-  pub ground : Ground image b tab
+  pub grounded : Ground image b tab
   pub area : Tabled tab work sheet
   pub trail : Trail work marks sheet
   pub held : Held image b tab work height marks used sheet due
@@ -149,7 +149,7 @@ module _ {image : List ℕ} {book : Book} {work : List ℕ} {run : Run} {all : L
     used = memory.used;
     sheet = memory.sheet;
     due = memory.due;
-    ground = memory.ground;
+    grounded = memory.grounded;
     area = memory.area;
     trail = memory.trail;
     held = memory.held;

@@ -5,7 +5,7 @@ ghost use Rattle.memory.specs.Pieces.{in_state, giving, placing, counting};
 
 // The tasks of an agenda: the literals of the image from `at` to `end`, or, where there is no end, the record `at` and those behind it; none,
 // where the two are equal. Then those of the cell at `link`, an agenda too.
-#[derive(Drop)]
+#[derive(Clone, Copy)]
 pub struct Agenda {
     // A place in the image, or a record.
     pub at: usize,
@@ -15,7 +15,7 @@ pub struct Agenda {
     pub link: usize,
 }
 
-#[derive(Drop)]
+#[derive(Clone, Copy)]
 pub struct Run {
     // One of the states below.
     pub state: usize,

@@ -11,7 +11,7 @@ use borrow.Author.Tests.{ltb-true, ltb-false, le-leb, lt-leb, eqb-true, eqb-fals
 use Rattle.base.specs.Bools.{decide, choose_false}
 use Rattle.image.specs.paper.Front.{atoms_at}
 use Rattle.image.specs.paper.Book.{Clause, Book}
-use Rattle.image.specs.paper.Walk.{Step, found, fault, Finding, fine, wrong, field_at}
+use Rattle.image.specs.paper.Walk.{Step, found, Finding, fine, wrong, field_at}
 use Rattle.image.specs.paper.Faults.{limits}
 use Rattle.image.specs.paper.Decode.{whole, wrong_front, front_place, record_place, loop_place, accepted, refused, in_order, decode}
 use Rattle.placing.specs.paper.Places.{Due, nothing, next, fault_of, Sound, front, Faulty, missing, unsound, left_over, FirstOnLoop, Placed, short, unknown, other_length}

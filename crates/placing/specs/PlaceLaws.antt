@@ -7,7 +7,7 @@ use borrow.Author.Tests.{leb-true, leb-false, eqb-true, eqb-false}
 use Rattle.base.specs.paper.Bools.{choose}
 use Rattle.image.specs.paper.Front.{atoms_at, version, version_at}
 use Rattle.image.specs.paper.Book.{Book}
-use Rattle.image.specs.paper.Walk.{Step, found, fault, Finding, fine, wrong, unless}
+use Rattle.image.specs.paper.Walk.{Step, found, Finding, fine, wrong, unless}
 use Rattle.image.specs.paper.Faults.{limits}
 use Rattle.image.specs.paper.Loops.{loop_free}
 use Rattle.image.specs.paper.Decode.{whole, length_field, wrong_front, front_place, loop_place, accepted, refused, in_order, decode}

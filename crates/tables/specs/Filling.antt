@@ -91,7 +91,7 @@ atoms_laid image work after₀ after₁ after₂ atoms abducibles e long p q z l
 -- They are filled.
 pub record Filled (image work after : List ℕ) : Type 0 where
   pub size : length after ≡ length work
-  pub ground : Ground image (book_in image) (of after)
+  pub grounded : Ground image (book_in image) (of after)
   pub area : Tabled (of after) after []
   pub stays : (j : ℕ) → trail ≤ j → get_or after j 0 ≡ get_or work j 0
 
@@ -283,8 +283,8 @@ module _ (image work after₁ after₂ after : List ℕ) (ready : Ready image wo
       (Records.record_at {e = constraint_record k} (omega arith) (omega arith) (row_chain image tab base trail (omega (arith, base_low)) (omega arith) (constrained.rows k less)) (inr (constrained.links k less))
       (subst (λ (m : ℕ). Records image tab m []) (sym (constrained.links k less)) Records.end))
 
-  ground : Ground image b tab
-  ground = record {
+  grounded : Ground image b tab
+  grounded = record {
     book = ready.book;
     assumable =
         λ p h.
@@ -321,7 +321,7 @@ module _ (image work after₁ after₂ after : List ℕ) (ready : Ready image wo
   unfolding on
   filled = record {
     size = all_size;
-    ground = ground;
+    grounded = grounded;
     area = record { long = omega (arith, all_size, ready.long); tabled = λ j p q. refl; marked = zero_marks };
     stays =
         λ j h.
@@ -390,7 +390,7 @@ module _ (image work : List ℕ) (ready : Ready image work) (clauses : ℕ) (is-
 pub all_filled : (image u work after : List ℕ) → AtomsLaid image u work → Filled image work after → Filled image u after
 all_filled image u work after a f = record {
   size = f.size ∙ a.size;
-  ground = f.ground;
+  grounded = f.grounded;
   area = f.area;
   stays = λ j h. f.stays j h ∙ a.stays j (omega arith);
 }

@@ -87,7 +87,7 @@ module _ {image : List ℕ} {book : Book} {work : List ℕ} {run : Run} {first :
       go : Recorded → Holds image book work (giving run WAY (get_or work run.task 0)) (children book first ++ rest)
       go (choice ts lss q c a f i u) =
           let ch : children book (node_of (pick lss ∷ ts) memory.sheet) ≡ by_ways ts memory.sheet lss = children_picks book memory.sheet ts lss in
-          let fs = subst (Every (Fine book (memory.height + 1))) ch (fine_children book (orderly image book memory.ground.book) memory.height 1 (pick lss) ts memory.sheet (held_pick memory.sheet lss) f) in
+          let fs = subst (Every (Fine book (memory.height + 1))) ch (fine_children book (orderly image book memory.grounded.book) memory.height 1 (pick lss) ts memory.sheet (held_pick memory.sheet lss) f) in
           with_hand memory (giving run WAY (get_or work run.task 0)) refl refl refl
           (subst (HandOf memory (giving run WAY (get_or work run.task 0)))
           (ap₂ (λ (l m : List Node). l ++ m) (sym (ap (children book) i ∙ ch)) u)

@@ -36,7 +36,7 @@ data Says (image : List ℕ) (book : Book) (tab : ℕ → ℕ) (wanted n : ℕ) 
   denies : wanted % 2 ≡ 1 → book.abducibles ≤ wanted / 2 → Denied image tab n (map break (clauses_for book (wanted / 2))) → Says image book tab wanted n
 
 says : (image : List ℕ) (book : Book) (tab : ℕ → ℕ) (wanted : ℕ) → Ground image book tab → wanted / 2 < book.atoms → Says image book tab wanted (tab (layout.literals + wanted))
-says image book tab wanted ground known = ⊎_elim (λ e. ⊎_elim (λ p. even e p) (λ p. even' e p) side) (λ e. ⊎_elim (λ p. odd e p) (λ p. odd' e p) side) (parity wanted)
+says image book tab wanted grounded known = ⊎_elim (λ e. ⊎_elim (λ p. even e p) (λ p. even' e p) side) (λ e. ⊎_elim (λ p. odd e p) (λ p. odd' e p) side) (parity wanted)
   where
     side : (wanted / 2 < book.abducibles) ⊎ (book.abducibles ≤ wanted / 2)
     side = ⊎_elim (λ e. inl (ltb-true (wanted / 2) book.abducibles e)) (λ e. inr (ltb-false (wanted / 2) book.abducibles e)) (decide (ltb (wanted / 2) book.abducibles))
@@ -48,16 +48,16 @@ says image book tab wanted ground known = ⊎_elim (λ e. ⊎_elim (λ p. even e
     at1 e = omega arith
 
     even : wanted % 2 ≡ 0 → wanted / 2 < book.abducibles → Says image book tab wanted (tab (layout.literals + wanted))
-    even e p = assumes e p (ap tab (sym (at0 e)) ∙ (ground.assumable (wanted / 2) p).0)
+    even e p = assumes e p (ap tab (sym (at0 e)) ∙ (grounded.assumable (wanted / 2) p).0)
 
     even' : wanted % 2 ≡ 0 → book.abducibles ≤ wanted / 2 → Says image book tab wanted (tab (layout.literals + wanted))
-    even' e p = proves e p (subst (λ (n : ℕ). Chain image tab (tab n) (map (λ (c : Clause). c.body) (clauses_for book (wanted / 2)))) (at0 e) (ground.reached (wanted / 2) p known))
+    even' e p = proves e p (subst (λ (n : ℕ). Chain image tab (tab n) (map (λ (c : Clause). c.body) (clauses_for book (wanted / 2)))) (at0 e) (grounded.reached (wanted / 2) p known))
 
     odd : wanted % 2 ≡ 1 → wanted / 2 < book.abducibles → Says image book tab wanted (tab (layout.literals + wanted))
-    odd e p = excludes e p (ap tab (sym (at1 e)) ∙ (ground.assumable (wanted / 2) p).1)
+    odd e p = excludes e p (ap tab (sym (at1 e)) ∙ (grounded.assumable (wanted / 2) p).1)
 
     odd' : wanted % 2 ≡ 1 → book.abducibles ≤ wanted / 2 → Says image book tab wanted (tab (layout.literals + wanted))
-    odd' e p = denies e p (subst (λ (n : ℕ). Denied image tab (tab n) (map break (clauses_for book (wanted / 2)))) (at1 e) (ground.denied (wanted / 2) p known))
+    odd' e p = denies e p (subst (λ (n : ℕ). Denied image tab (tab n) (map break (clauses_for book (wanted / 2)))) (at1 e) (grounded.denied (wanted / 2) p known))
 
 -- a record's number
 denied_apart : {image : List ℕ} {tab : ℕ → ℕ} {n : ℕ} {ts : List Task} → Denied image tab n ts → (n ≡ 0 → ⊥) × (n ≡ layout.joins_set → ⊥)
@@ -92,7 +92,7 @@ module _ {image : List ℕ} {book : Book} {work : List ℕ} {run : Run} {first :
       go (last p q c) i = absurd (omega (arith, p, lit))
 
   ordered : Orderly book
-  ordered = orderly image book memory.ground.book
+  ordered = orderly image book memory.grounded.book
 
   small : wanted < layout.literal_numbers
   small = omega (arith, is-task, lit)
@@ -139,7 +139,7 @@ module _ {image : List ℕ} {book : Book} {work : List ℕ} {run : Run} {first :
     number = memory.area.tabled (layout.literals + wanted) (omega arith) (omega (arith, small))
 
     meant : Says image book memory.tab wanted (get_or work (layout.literals + wanted) 0)
-    meant = subst (Says image book memory.tab wanted) (sym number) (says image book memory.tab wanted memory.ground known)
+    meant = subst (Says image book memory.tab wanted) (sym number) (says image book memory.tab wanted memory.grounded known)
 
     opens : wanted % 2 ≡ 0 → book.abducibles ≤ wanted / 2
         → children book (node_of (want (lit_of wanted) ∷ wanting.ts) memory.sheet) ≡ by_ways wanting.ts (lit_of wanted ∷ memory.sheet) (map (λ (c : Clause). c.body) (clauses_for book (wanted / 2)))
@@ -210,7 +210,7 @@ module _ {image : List ℕ} {book : Book} {work : List ℕ} {run : Run} {first :
       used = memory.used;
       sheet = lit_of wanted ∷ memory.sheet;
       due = memory.due;
-      ground = memory.ground;
+      grounded = memory.grounded;
       area = a;
       trail = t;
       held = hd;
@@ -247,7 +247,7 @@ module _ {image : List ℕ} {book : Book} {work : List ℕ} {run : Run} {first :
 
     pub set_fits : get_or work (layout.literals + wanted) 0 ≡ layout.joins_set → (wanted / 2 < limits.abducibles) × (run.set + 2 ^ (wanted / 2) < bits64)
     set_fits z =
-        let few : book.abducibles ≤ limits.abducibles = (within image book memory.ground.book).abducibles in
+        let few : book.abducibles ≤ limits.abducibles = (within image book memory.grounded.book).abducibles in
         (omega (arith, (even_assumed z).1), subst (λ (n : ℕ). n < bits64) (sym (set_joined z)) (assumed_fits book (lit_of wanted ∷ memory.sheet) few))
 
     pub put_assumed : get_or work (layout.literals + wanted) 0 ≡ layout.joins_set → Holds image book (marked_with work run wanted) (in_state (adding (raised run) (wanted / 2)) AGENDA) (children book first ++ rest)
@@ -285,7 +285,7 @@ module _ {image : List ℕ} {book : Book} {work : List ℕ} {run : Run} {first :
     -- the agenda behind can be laid down
     pub want_layable : Layable (marked_with work run wanted) (raised run)
     want_layable =
-        let sm = leads_small memory.ground (trail_few memory.trail) wanting.behind in
+        let sm = leads_small memory.grounded (trail_few memory.trail) wanting.behind in
         record { low = omega (arith, memory.marked); high = omega (arith, memory.marked, room); long = new_area.long; at = sm.0; end = sm.1; link = omega (arith, sm.2) }
 
     -- a list of two is not short

@@ -1,7 +1,7 @@
 -- Paper 02, A2.1, in words: "where the faulty field begins, or would begin if it is missing". Which field is due at each place of an image,
 -- what its faults are, and that every field before it is sound; told field by field from paper 01, 3 and 4, without the walk.
 -- Assumes nothing.
-use Rattle.std.specs.Prelude.{ℕ, zero, suc, ◌+◌, ◌-◌, ◌*◌, ◌≤◌, ◌<◌, ◌≡◌, true, false, ◌⊎◌, List, ◌∷◌, ◌++◌, ltb, length, get_or}
+use Rattle.std.specs.Prelude.{ℕ, zero, suc, ◌+◌, ◌-◌, ◌*◌, ◌≤◌, ◌<◌, ◌≡◌, List, ◌∷◌, ◌++◌, ltb, length, get_or}
 use Rattle.base.specs.paper.Bools.{choose}
 use Rattle.base.specs.paper.Lists.{Every}
 use Rattle.image.specs.paper.Front.{version, version_at, length_at, atoms_at}
