@@ -12,7 +12,7 @@ use Rattle.image.specs.Accepted.{orderly, IsBook, book_in, book_in_lem}
 use Rattle.sets.specs.paper.Kept.{zeros, longest}
 use Rattle.searching.specs.paper.Rules.{Outcome, run_from, search_end}
 use Rattle.searching.specs.paper.Seek.{root_with, Seeking, admitted, excluded, spent, sought}
-use Rattle.searching.specs.Admitted.{told, sought_run, sought_within, admitted_some, excluded_none}
+use Rattle.searching.proofs.Admitted.{told, sought_run, sought_within, admitted_some, excluded_none}
 use Rattle.area.specs.paper.Work.{work_numbers}
 use Rattle.area.specs.Area as layout
 use Rattle.machine.specs.declared.Ended.{Ended}

@@ -2,7 +2,7 @@
 ghost use Rattle.std.specs.Prelude.{◌≡◌, ◌≤◌};
 ghost use Rattle.image.specs.paper.Faults.{limits};
 ghost use Rattle.area.specs.Area.{wanted_true, Long};
-ghost use Rattle.area.specs.Links.{head_in, shut as shutOf, linking, LinkDue, Unlinked, Linked};
+ghost use Rattle.area.specs.Links.{head_in, shut as shut_of, linking, LinkDue, Unlinked, Linked};
 ghost use Rattle.area.specs.Cells.{RecordLaid};
 
 use super::{
@@ -12,7 +12,7 @@ use super::{
 
 // A record's link, of what wanting an atom's opposite does: none, where that joins, as it does with no record.
 fn shut(link: u32) -> u32
-    ensures { result ≡ shutOf link }
+    ensures { result ≡ shut_of link }
 {
     if link == JOINS as u32 {
         return NO_LINK as u32;

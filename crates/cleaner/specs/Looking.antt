@@ -19,13 +19,13 @@ use Rattle.sets.specs.SetLaws.{within_has}
 use Rattle.area.specs.paper.Work.{work_numbers}
 use Rattle.searching.specs.paper.Rules.{Outcome, finished, used_up, no_room, search_end}
 use Rattle.searching.specs.paper.Seek.{Seeking, admitted, excluded, spent, sought}
-use Rattle.searching.specs.Main.{listed}
+use Rattle.searching.proofs.Main.{listed}
 use Rattle.lister.specs.paper.Promise.{most_budget, Result, searched, result_of, answer_of, sets_of, work_of, Lists}
 use Rattle.lister.specs.PromiseLaws.{Admitted, admitted_result}
 use Rattle.lister.specs.declared.Listing.{Listing}
 use Rattle.lister.specs.declared.Listing.TheVariants as listing
 use Rattle.engine.specs.declared.Verdict.{Verdict}
-use Rattle.engine.specs.declared.Verdict.TheVariants.{Needed, Possible, Broken, Refused}
+use Rattle.engine.specs.declared.Verdict.TheVariants.{Needed, Possible, Refused}
 use Rattle.engine.specs.paper.Verdict.{verdict_result, second_of, second, unsettled, by_second, decided, verdict_of, kept, verdict_sets, Refusal, Says}
 use Rattle.engine.specs.VerdictLaws.{by_listing_lem, decided_says}
 use Rattle.cleaner.specs.declared.Sorted.{Sorted}

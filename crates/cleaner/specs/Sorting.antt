@@ -17,14 +17,13 @@ use Rattle.sets.specs.paper.Kept.{zeros}
 use Rattle.sets.specs.SetLaws.{within_has}
 use Rattle.area.specs.paper.Work.{work_numbers}
 use Rattle.searching.specs.paper.Seek.{Seeking, admitted, excluded, spent, sought}
-use Rattle.searching.specs.Main.{listed}
-use Rattle.lister.specs.paper.Promise.{most_budget, Result, turned, searched, result_of, answer_of, work_of}
-use Rattle.lister.specs.PromiseLaws.{Admitted}
+use Rattle.searching.proofs.Main.{listed}
+use Rattle.lister.specs.paper.Promise.{most_budget}
 use Rattle.admitting.specs.paper.Promise as admitting
 use Rattle.admitting.specs.declared.Admission.{Admission}
 use Rattle.admitting.specs.declared.Admission.TheVariants as admission
 use Rattle.engine.specs.declared.Verdict.{Verdict}
-use Rattle.engine.specs.declared.Verdict.TheVariants.{Needed, Possible, Broken, Refused}
+use Rattle.engine.specs.declared.Verdict.TheVariants.{Needed, Possible}
 use Rattle.engine.specs.paper.Verdict.{by_second, decided}
 use Rattle.cleaner.specs.declared.Sorted.{Sorted}
 use Rattle.cleaner.specs.declared.Cleaning.{Cleaning}

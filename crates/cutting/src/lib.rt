@@ -1,7 +1,6 @@
 // Words cut off a text, as spelling/specs/Cut has them: where the blanks end, and the word that stands there.
 #![tactic(auto)]
 
-
 ghost use Rattle.std.specs.Prelude.{◌≡◌, [], ◌∷◌, ◌+◌, ◌≤◌, ◌<◌, length, drop};
 ghost use Rattle.image.specs.paper.Walk.{byte_values};
 ghost use Rattle.spelling.specs.paper.Words.{blank, in_name, within, same};

@@ -10,7 +10,7 @@ use Rattle.image.specs.paper.Book.{Book}
 use Rattle.image.specs.paper.Faults.{limits}
 use Rattle.image.specs.paper.Decode.{Decoded, accepted, refused, decode}
 use Rattle.image.specs.Numbers.{decode_number}
-use Rattle.placing.specs.Most.{place_most}
+use Rattle.placing.proofs.Most.{place_most}
 use Rattle.image.specs.Accepted.{within}
 use Rattle.book.specs.paper.Reading.{Reads, reading_of}
 use Rattle.book.specs.declared.Reading.{Reading}
@@ -22,7 +22,7 @@ use Rattle.judging.specs.declared.Judgement.{Judgement}
 use Rattle.judging.specs.declared.Judgement.TheVariants as judgement
 use Rattle.searching.specs.paper.Rules.{root, Outcome, finished, used_up, no_room, run_from, sent, search_end}
 use Rattle.searching.specs.paper.Tree.{size}
-use Rattle.searching.specs.Outcomes.{kept_at, Says, finishes, runs_out, fills_up, says}
+use Rattle.searching.proofs.Outcomes.{kept_at, Says, finishes, runs_out, fills_up, says}
 use Rattle.sets.specs.KeptLaws.{sort_length}
 use Rattle.joiner.specs.paper.Join.{Long, Outcome as Ending, refused20, refused31, counted, Joins}
 use Rattle.sets.specs.paper.Kept.{longest}
@@ -33,7 +33,7 @@ use Rattle.lister.specs.paper.Promise.{most_budget, Result, broken, turned, sear
 use Rattle.lister.specs.declared.Listing.{Listing}
 use Rattle.lister.specs.declared.Listing.TheVariants as list
 use Rattle.searching.specs.paper.Seek.{Seeking, admitted, excluded, spent, sought}
-use Rattle.searching.specs.Admitted.{sought_within}
+use Rattle.searching.proofs.Admitted.{sought_within}
 use Rattle.admitting.specs.paper.Promise as admits
 use Rattle.admitting.specs.declared.Admission.{Admission}
 use Rattle.admitting.specs.declared.Admission.TheVariants as admission
@@ -48,7 +48,7 @@ use Rattle.image.specs.declared.Writing.TheVariants as writing
 use Rattle.spelling.specs.paper.Document.{Document}
 use Rattle.spelling.specs.paper.Said.{book_of}
 use Rattle.spelling.specs.paper.Answer.{image_of, name_lines, Clear, Ends, malformed, clashes, turned, short, whole, Writes}
-use Rattle.spelling.specs.Lines.{lines_fit}
+use Rattle.spelling.proofs.Lines.{lines_fit}
 
 -- the last refusal number of paper 01
 abbrev pub last_number : ℕ

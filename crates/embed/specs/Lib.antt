@@ -1,4 +1,3 @@
 -- The codes of the answers for callers in C, and that they tell the answers apart.
 pub mod paper
 pub mod Bounds
-pub mod CodeLaws

@@ -26,10 +26,10 @@ use Rattle.searching.specs.paper.Rules.{root, Outcome, finished, used_up, no_roo
 use Rattle.searching.specs.paper.Tree.{size}
 use Rattle.searching.specs.paper.Explanations.{Explanations}
 use Rattle.searching.specs.paper.Seek.{Seeking, admitted, excluded, spent, sought}
-use Rattle.searching.specs.Main.{explanations_none}
-use Rattle.searching.specs.Outcomes.{finished_exactly}
-use Rattle.searching.specs.Admitted.{admitted_some, excluded_none}
-use Rattle.searching.specs.Explaining.{all_explaining, some_explaining, not_all}
+use Rattle.searching.proofs.Main.{explanations_none}
+use Rattle.searching.proofs.Outcomes.{finished_exactly}
+use Rattle.searching.proofs.Admitted.{admitted_some, excluded_none}
+use Rattle.searching.proofs.Explaining.{all_explaining, some_explaining, not_all}
 use Rattle.lister.specs.paper.Promise.{most_budget, Result, broken, turned, searched, result_of, answer_of, sets_of, work_of, Explained, Lists}
 use Rattle.lister.specs.PromiseLaws.{Admitted as Admitted', Early, admitted_result}
 use Rattle.lister.specs.declared.Asked.{Asked}

@@ -2,7 +2,6 @@
 // it ends with an answer or a numbered refusal. The promises stand in specs/paper of the crates that keep them. The reader is `book::read`.
 #![tactic(auto)]
 
-
 ghost use Rattle.judging.specs.paper.Judged.{Judges};
 ghost use Rattle.lister.specs.paper.Promise.{Lists};
 ghost use Rattle.admitting.specs.paper.Promise.{Admits};

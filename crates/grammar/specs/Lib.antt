@@ -1,5 +1,2 @@
 -- Whether the words of a text, as codes, spell a document, and where its goal line stands.
 pub mod Places
-pub mod PlaceLaws
-pub mod Reading
-pub mod Goal

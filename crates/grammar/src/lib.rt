@@ -2,7 +2,6 @@
 // specs/Places has it. A function that looks for a thing answers the place behind it, or the end of the words where the thing does not begin here.
 #![tactic(auto)]
 
-
 ghost use Rattle.std.specs.Prelude.{◌≡◌, ◌<◌, length};
 ghost use Rattle.spelling.specs.Codes.{other_code};
 ghost use Rattle.grammar.specs.Places.{code_at, word_end, name_end, atom_end, literal_end, literals_end, side_end, ways_end, conclusion_end, constraint_end, statement_end, statements_end, ends_with_goal, goal_place};

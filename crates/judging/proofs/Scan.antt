@@ -25,7 +25,7 @@ use Rattle.image.specs.Written.{decode_written}
 use Rattle.image.specs.Accepted.{closed, orderly, book_in, IsBook}
 use Rattle.image.specs.Shown.{clause_count_at, clause_place, skip, no_clause}
 use Rattle.meaning.specs.paper.Meaning.{clauses_for, true_in, all_true, some_body, value}
-use Rattle.meaning.specs.Model.{value_model}
+use Rattle.meaning.proofs.Model.{value_model}
 use Rattle.judging.specs.Notes.{lits_to, Noted}
 use Rattle.image.specs.Places.{shows}
 use Rattle.judging.proofs.Image.{lits_none, lits_more, lits_stand, Here}

@@ -16,7 +16,7 @@ use Rattle.meaning.specs.paper.Meaning.{true_in, all_true, value, holds, explain
 use Rattle.image.specs.Accepted.{orderly}
 use Rattle.judging.specs.FailingLaws.{failing_first, first_failing_lem, failing_all, all_failing}
 use Rattle.meaning.specs.paper.Completion.{Answer}
-use Rattle.meaning.specs.Entailed.{answer_explains}
+use Rattle.meaning.proofs.Entailed.{answer_explains}
 use Rattle.judging.specs.declared.Judgement.{Judgement}
 use Rattle.judging.specs.declared.Judgement.TheVariants.{Explains, FalseGoal, BrokenConstraint, Broken, Refused}
 use Rattle.judging.specs.paper.Judged.{first_false, first_broken, judged_book, judged_of, judged, Judges, Means, Said}

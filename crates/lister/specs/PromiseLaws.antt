@@ -11,7 +11,7 @@ use Rattle.sets.specs.paper.Kept.{zeros, sort, longest}
 use Rattle.sets.specs.KeptLaws.{sort_length}
 use Rattle.searching.specs.paper.Rules.{root, Outcome, finished, used_up, no_room, run_from, sent, search_end}
 use Rattle.searching.specs.paper.Explanations.{Explanations}
-use Rattle.searching.specs.Main.{listed}
+use Rattle.searching.proofs.Main.{listed}
 use Rattle.area.specs.Area as layout
 use Rattle.lister.specs.declared.Asked.{Asked}
 use Rattle.lister.specs.declared.Asked.TheVariants.{Broken as BrokenBook, Turned, Search}

@@ -21,7 +21,7 @@ use Rattle.sets.specs.paper.Kept.{zeros, longest}
 use Rattle.searching.specs.paper.Rules.{want, keep, Node, root, on, gather, assumed, run_from}
 use Rattle.searching.specs.paper.Rules
 use Rattle.searching.specs.paper.Seek.{root_with}
-use Rattle.searching.specs.Bounds.{root_frames, root_named, with_frames, with_named}
+use Rattle.searching.proofs.Bounds.{root_frames, root_named, with_frames, with_named}
 use Rattle.area.specs.Ground.{pos}
 use Rattle.area.specs.Lay.{of, behind_stays}
 use Rattle.tables.specs.Filling.{Filled}

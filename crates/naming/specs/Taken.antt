@@ -14,7 +14,7 @@ use Rattle.spelling.specs.paper.Words.{Word, same, abd}
 use Rattle.spelling.specs.paper.Document.{Atom}
 use Rattle.spelling.specs.paper.Answer.{longest_text}
 use Rattle.spelling.specs.Cut.{words as words_of}
-use Rattle.spelling.specs.Mentioned.{scan}
+use Rattle.spelling.proofs.Mentioned.{scan}
 use Rattle.spelling.specs.Codes.{abd_code, buckets, code_of, codes_of}
 use Rattle.spelling.specs.Table.{name_of, is_marked, known, entered, table_of, clashes, Entries}
 use Rattle.cutting.specs.CutOff.{word_at, BlanksEnd}

@@ -15,9 +15,9 @@ use Rattle.spelling.specs.paper.Answer.{longest_text}
 use Rattle.spelling.specs.Reader.{atom_of}
 use Rattle.spelling.specs.Cut.{cut, words_by, words}
 use Rattle.spelling.specs.Cutting.{words_on}
-use Rattle.spelling.specs.Mentioned.{scan}
+use Rattle.spelling.proofs.Mentioned.{scan}
 use Rattle.spelling.specs.Codes.{fixed_words, abd_code, first_name, code_of, codes_of, hash_of}
-use Rattle.spelling.specs.Numbering.{number_most}
+use Rattle.spelling.proofs.Numbering.{number_most}
 use Rattle.spelling.specs.Table.{known, enter, entered, differs, clashes, name_at}
 use Rattle.cutting.specs.CutOff.{word_at, BlanksEnd, CutOff}
 use Rattle.naming.specs.Chains.{names}

@@ -3,7 +3,6 @@
 // each entry, 1 + the one of the same bucket before it (0: none).
 #![tactic(auto)]
 
-
 ghost use Rattle.std.specs.Prelude.{◌≡◌, List, ◌+◌, ◌≤◌, ◌<◌, length};
 ghost use Rattle.spelling.specs.paper.Words.{same};
 ghost use Rattle.spelling.specs.paper.Document.{Atom};

@@ -1,6 +1,6 @@
 -- What the parts of the code find of a text, put together: the document that its words spell, the numbers of its names, and its image.
 -- Assumes nothing.
-use Rattle.std.specs.Prelude.{ℕ, suc, ◌+◌, ◌-◌, ◌≤◌, ◌<◌, ◌≡◌, refl, Bool, true, false, List, ◌++◌, map, length, take, drop}
+use Rattle.std.specs.Prelude.{ℕ, suc, ◌-◌, ◌≤◌, ◌<◌, ◌≡◌, refl, Bool, true, false, List, ◌++◌, map, length, take, drop}
 use Rattle.std.proofs.Common.{arith, sym, ap₂, ◌∙◌, subst, length-append, length-drop, take_at}
 use Rattle.std.proofs.Math.Path.{ap}
 use Rattle.base.specs.paper.Lists.{◌∈◌, flat, filter}
@@ -13,15 +13,15 @@ use Rattle.spelling.specs.paper.Said.{mentions, numbered, number_of}
 use Rattle.spelling.specs.paper.Answer.{longest_text, Says, image_of, Clear}
 use Rattle.spelling.specs.Cut.{words as words_of}
 use Rattle.spelling.specs.Reader.{reads, parse, parse_words}
-use Rattle.spelling.specs.Sound.{parse_sound}
-use Rattle.spelling.specs.Found.{parse_spelt}
-use Rattle.spelling.specs.Mentioned.{scan}
+use Rattle.spelling.proofs.Sound.{parse_sound}
+use Rattle.spelling.proofs.Found.{parse_spelt}
+use Rattle.spelling.proofs.Mentioned.{scan}
 use Rattle.spelling.specs.Codes.{codes_of}
 use Rattle.spelling.specs.Table.{name_of, is_marked, table_of, Entries, number_in}
-use Rattle.spelling.specs.Ranks.{table_atoms, table_marked, mention_number}
+use Rattle.spelling.proofs.Ranks.{table_atoms, table_marked, mention_number}
 use Rattle.naming.specs.Taken.{TakenWords}
 use Rattle.grammar.specs.Places.{goal_place, place_of}
-use Rattle.grammar.specs.Goal.{goal_placed}
+use Rattle.grammar.proofs.Goal.{goal_placed}
 use Rattle.writer.specs.Fields.{image_by}
 use Rattle.writer.specs.Due.{Statements}
 use Rattle.writer.specs.OfDocument.{image_by_lem}

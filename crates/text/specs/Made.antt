@@ -14,11 +14,11 @@ use Rattle.spelling.specs.paper.Said.{mentions, book_of}
 use Rattle.spelling.specs.paper.Answer.{longest_text, Says, image_of, Clear, Ends, malformed, clashes as clashed, turned, short, whole, Writes}
 use Rattle.spelling.specs.Cut.{words}
 use Rattle.spelling.specs.Reader.{Parsed, reads, unreadable, parse}
-use Rattle.spelling.specs.Found.{parse_spelt}
-use Rattle.spelling.specs.Mentioned.{scan, scan_words}
-use Rattle.spelling.specs.Only.{Outcome, back, limit, head, loop, text_only}
+use Rattle.spelling.proofs.Found.{parse_spelt}
+use Rattle.spelling.proofs.Mentioned.{scan, scan_words}
+use Rattle.spelling.proofs.Only.{Outcome, back, limit, head, loop, text_only}
 use Rattle.spelling.specs.Table.{table_of, clashes, Entries}
-use Rattle.spelling.specs.TableLaws.{clashes_clashing}
+use Rattle.spelling.proofs.TableLaws.{clashes_clashing}
 use Rattle.grammar.specs.Places.{place_of}
 use Rattle.writer.specs.Writable.{image_room}
 use Rattle.text.specs.Delivered.{delivery}

@@ -9,9 +9,9 @@ use Rattle.spelling.specs.paper.Words.{Word}
 use Rattle.spelling.specs.paper.Document.{Atom}
 use Rattle.spelling.specs.paper.Said.{mentions}
 use Rattle.spelling.specs.paper.Answer.{name_lines}
-use Rattle.spelling.specs.Lines.{longest_lines, lines_fit}
+use Rattle.spelling.proofs.Lines.{longest_lines, lines_fit}
 use Rattle.spelling.specs.Table.{name_of, is_marked, table_of, bit}
-use Rattle.spelling.specs.Ranks.{is_bare, table_numbered}
+use Rattle.spelling.proofs.Ranks.{is_bare, table_numbered}
 use Rattle.text.specs.Lines.{line_end, lines_by, lines_table}
 use Rattle.text.specs.Made.{Found}
 

@@ -90,7 +90,8 @@ fn deliver(made: &[u8], room: &mut [u8]) -> Writing
     if room.len() < made.len() {
         return Writing::Refused(TOO_SHORT);
     }
-    let n = bytes::copy(made, room);
+    let n = made.len();
+    room[..n].copy_from_slice(made);
     Writing::Written(n as u32)
 }
 

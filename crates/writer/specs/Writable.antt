@@ -19,7 +19,7 @@ use Rattle.spelling.specs.paper.Spelt.{Spaced}
 use Rattle.spelling.specs.paper.Said.{atoms_in, mentions_in, mentions, abducibles, numbered, number_of, book_of}
 use Rattle.spelling.specs.paper.Answer.{longest_text, Says, image_of}
 use Rattle.spelling.specs.Codes.{fixed_words, arrow_code, first_name, code_of, codes_of}
-use Rattle.spelling.specs.Numbering.{number_most}
+use Rattle.spelling.proofs.Numbering.{number_most}
 use Rattle.writer.specs.Fields.{is_end, image_by}
 use Rattle.writer.specs.Due.{Known, Statements}
 use Rattle.writer.specs.Whole.{framed_length}

@@ -2,7 +2,6 @@
 // count, and are put there last.
 #![tactic(auto)]
 
-
 pub mod literals;
 pub mod statements;
 

@@ -15,16 +15,16 @@ use Rattle.judging.proofs.judge_accepted.Reads as reads
 use Rattle.judging.proofs.judge_accepted.Goals as goal
 
 abbrev After-field_at : Type 0
-After-field_at = lts.After-field_at tie.the-claims reads.Pre reads.Post
+After-field_at = lts.After-field_at tie.the-claims reads.Pre reads.Post tie.handed_clauses
 
 abbrev After-first_false : Type 0
-After-first_false = lts.After-first_false tie.the-claims reads.Pre reads.Post
+After-first_false = lts.After-first_false tie.the-claims reads.Pre reads.Post tie.handed_clauses
 
 abbrev Else1 : Type 0
-Else1 = lts.Else1 tie.the-claims reads.Pre reads.Post
+Else1 = lts.Else1 tie.the-claims reads.Pre reads.Post tie.handed_clauses
 
 abbrev Start : Type 0
-Start = lts.Start tie.the-claims reads.Pre reads.Post
+Start = lts.Start tie.the-claims reads.Pre reads.Post tie.handed_clauses
 
 -- from the goal's answer back to the test of the set, and to the entry
 abbrev named : After-first_false → Else1
@@ -64,13 +64,13 @@ slice_bounds-first_false-end c =
     omega (arith, goal_before e.args.image.now, clauses_fit e.args.image.now e.requires, c.clauses-behind.ensures)
 
 pub first_false-goal-requires : goal.first_false-goal-requires
-first_false-goal-requires c = let p = (entry c.before.before.before.before.before).requires in (p, (noted_none _ _ 256, goal_known _ p _ c.clauses-behind.ensures))
+first_false-goal-requires c = let p = (entry c.before.before.before.before.before).requires in record { book = p; noted = noted_none _ _ 256; known = goal_known _ p _ c.clauses-behind.ensures }
 
 pub returns-then-goal-goals : goal.returns-then-goal-goals
 returns-then-goal-goals c =
     let goal = c in
     let n = named goal.before.before in
-    answers_goal _ (entry n).requires _ _ _ n.abducibles.ensures.0 n.names_above.ensures n.if-names_above.left
+    answers_goal _ (entry n).requires _ _ _ n.abducibles.ensures.0 n.names_above.ensures n.if-names_above.false
     _ _ _ goal.goals-goals.ensures.0 goal.clauses-behind.ensures goal.first_false-goal.ensures.place c.if-goal-goals.true
 
 pub field_at-count-requires : goal.field_at-count-requires
@@ -80,7 +80,7 @@ pub returns-then-constraint-count : goal.returns-then-constraint-count
 returns-then-constraint-count c =
     let goal = c in
     let n = named goal.before.before.before.before.before.before.before in
-    answers_constraint _ (entry n).requires _ _ _ n.abducibles.ensures.0 n.names_above.ensures n.if-names_above.left
+    answers_constraint _ (entry n).requires _ _ _ n.abducibles.ensures.0 n.names_above.ensures n.if-names_above.false
     _ _ _ goal.goals-goals.ensures.0 goal.clauses-behind.ensures goal.first_false-goal.ensures.place c.if-goal-goals.false
     _ _ (counted c.before.before.before.before) c.first_broken-constraint.ensures.place c.if-constraint-count.true
 
@@ -88,6 +88,6 @@ pub returns : goal.returns
 returns c =
     let goal = c in
     let n = named goal.before.before.before.before.before.before.before in
-    answers_explains _ (entry n).requires _ _ _ n.abducibles.ensures.0 n.names_above.ensures n.if-names_above.left
+    answers_explains _ (entry n).requires _ _ _ n.abducibles.ensures.0 n.names_above.ensures n.if-names_above.false
     _ _ _ goal.goals-goals.ensures.0 goal.clauses-behind.ensures goal.first_false-goal.ensures.place c.if-goal-goals.false
     _ _ (counted c.before.before.before.before) c.first_broken-constraint.ensures.place c.if-constraint-count.false

@@ -27,4 +27,5 @@ shape_of-work c = c.lay_literals-2.ensures.size ∙ c.lay_literals.ensures.size 
 
 pub returns : goal.returns
 returns c =
-    atoms_laid _ _ _ _ _ _ _ c.requires.0 c.requires.1 c.atoms-atoms.ensures.0 c.abducibles-abducibles.ensures.0 c.wipe.ensures c.lay_literals.ensures c.lay_literals-2.ensures
+    atoms_laid _ _ _ _ _ _ _ c.requires.0 c.requires.1 c.atoms-atoms.ensures.0 c.abducibles-abducibles.ensures.0
+    c.wipe.ensures c.lay_literals.ensures c.lay_literals-2.ensures

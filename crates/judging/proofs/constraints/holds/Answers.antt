@@ -29,8 +29,8 @@ abbrev entry : After-field_at2 → Start
 entry c = c.before.before.before
 
 -- the constraint that stands at the place
-here : (c : Start) → Standing c.args.image.now c.args.place c.requires.noted.1.0
-here c = standing _ c.requires.book _ _ c.requires.noted.1.1 c.requires.noted.1.2
+here : (c : Start) → Standing c.args.image.now c.args.place c.requires.k.0
+here c = standing _ c.requires.book _ _ c.requires.k.1 c.requires.k.2
 
 pub overflow_add-start : goal.overflow_add-start
 overflow_add-start c = omega (arith, (here c.before.before).within, c.well_formed.0.0)
@@ -55,25 +55,19 @@ slice_bounds-first_false-end c = let e = c in omega (arith, (here e.before.befor
 
 pub first_false-requires : goal.first_false-requires
 first_false-requires c =
-    let e = c in (
-      e.requires.book,
-      (
-        e.requires.noted.0,
-        subst (λ (ls : List Lit). Known (book_in e.args.image.now) ls) (sym (counted_part _ _ _ _ (here e.before.before.before.before.before.before).conditions c.field_at-count.ensures.0)) (here e.before.before.before.before.before.before).known,
-      ),
-    )
+    let e = c in record { book = e.requires.book; noted = e.requires.noted; known = subst (λ (ls : List Lit). Known (book_in e.args.image.now) ls) (sym (counted_part _ _ _ _ (here e.before.before.before.before.before.before).conditions c.field_at-count.ensures.0)) (here e.before.before.before.before.before.before).known }
 
 pub returns-then-first_false-count : goal.returns-then-first_false-count
 returns-then-first_false-count c =
     let n = counted c.before.before in
     let first = c.first_false.ensures in
-    record { held = λ k m h. sym (standing_false _ _ _ k (standing _ (entry n).requires.book _ k m h) _ _ n.field_at-count.ensures.0 first.0 c.if-first_false-count.true); memo = first.1 }
+    record { held = λ k m h. sym (standing_false _ _ _ k (standing _ (entry n).requires.book _ k m h) _ _ n.field_at-count.ensures.0 first.place c.if-first_false-count.true); memo = first.memo }
 
 pub some_way-requires : goal.some_way-requires
 some_way-requires c =
     let first = c in
     let n = counted first.before.before.before in
-    ((entry n).requires.book, (first.first_false.ensures.memo, (_, standing_ways _ _ _ (here (entry n)) _ _ n.field_at-count.ensures.0 n.field_at.ensures.0)))
+    record { book = (entry n).requires.book; noted = first.first_false.ensures.memo; ways = (_, standing_ways _ _ _ (here (entry n)) _ _ n.field_at-count.ensures.0 n.field_at.ensures.0) }
 
 pub returns : goal.returns
 returns c =

@@ -1,27 +1,26 @@
 -- `judging::constraints::some_way` meets its contract. Assumes nothing.
 use mathlib.Core.Path.{sym, subst}
 use mathlib.Core.List.{List}
-use Prim.Native.Nat.{◌-◌}
 use native.Mathlib.Omega.{arith}
 use Rattle.image.specs.paper.Book.{Lit}
 use Rattle.image.specs.Sound.{Known}
 use Rattle.image.specs.Accepted.{book_in}
-use Rattle.judging.proofs.Constraint.{First, Tried, counted_part, tried_start, tried_over, tried_first, tried_true, tried_false}
+use Rattle.judging.proofs.Constraint.{First, counted_part, tried_start, tried_over, tried_first, tried_true, tried_false}
 use Rattle.judging.proofs.constraints.some_way.Lts as lts
 use Rattle.judging.proofs.constraints.some_way.Tie as tie
 use Rattle.judging.proofs.constraints.some_way.Reads as reads
 use Rattle.judging.proofs.constraints.some_way.Goals as goal
 
 abbrev In-loop : Type 0
-In-loop = lts.In-loop tie.the-claims reads.Pre reads.Post tie.handed_clauses goal.the-invariant-loop-at goal.the-decreases-loop-at
+In-loop = lts.In-loop tie.the-claims reads.Pre reads.Post goal.the-invariant-loop-at goal.the-decreases-loop-at tie.handed_clauses
 
 -- the alternative that is tried
 first : (c : In-loop)
-    → (let e = c in First e.args.image.now c.loop-at.at e.args.end (c.loop-at.invariant.left e.requires.noted.1.0 e.requires.noted.1.1).rest)
-first c = let e = c in tried_first _ _ _ _ _ _ c.loop-at.invariant e.requires.noted.1.0 e.requires.noted.1.1 c.loop-at-test.true
+    → (let e = c in First e.args.image.now c.loop-at.at e.args.end (c.loop-at.invariant.left e.requires.ways.0 e.requires.ways.1).rest)
+first c = let e = c in tried_first _ _ _ _ _ _ c.loop-at.invariant e.requires.ways.0 e.requires.ways.1 c.loop-at-test.true
 
 pub loop-at-init : goal.loop-at-init
-loop-at-init c = tried_start _ _ _ _ _ c.requires.noted.0
+loop-at-init c = tried_start _ _ _ _ _ c.requires.noted
 
 pub field_at-count-requires : goal.field_at-count-requires
 field_at-count-requires c = omega (arith, (first c.before).counted.within)
@@ -48,17 +47,14 @@ slice_bounds-first_false-end c =
 pub first_false-requires : goal.first_false-requires
 first_false-requires c =
     let f = first c.before.before.before.before in
-    let e.before.before.before.before = c in (
-      e.requires.book,
-      (
-        c.loop-at.invariant.noted,
-        subst (λ (ls : List Lit). Known (book_in e.args.image.now) ls) (sym (counted_part _ _ _ _ f.counted c.field_at-count.ensures.0)) f.known,
-      ),
-    )
+    let e = c in record { book = e.requires.book; noted = c.loop-at.invariant.noted; known = subst (λ (ls : List Lit). Known (book_in e.args.image.now) ls) (sym (counted_part _ _ _ _ f.counted c.field_at-count.ensures.0)) f.known }
 
 pub returns-then-first_false-count : goal.returns-then-first_false-count
-returns-then-first_false-count c = record {met = λ ways w.
-      sym (tried_true _ _ _ _ _ _ c.loop-at.invariant ways w c.loop-at-test.true _ _ c.field_at-count.ensures.0 c.first_false.ensures.place c.if-first_false-count.true); memo = c.first_false.ensures.memo}
+returns-then-first_false-count c = record {
+  met = λ ways w.
+      sym (tried_true _ _ _ _ _ _ c.loop-at.invariant ways w c.loop-at-test.true _ _ c.field_at-count.ensures.0 c.first_false.ensures.place c.if-first_false-count.true);
+  memo = c.first_false.ensures.memo;
+}
 
 pub loop-at-preserved : goal.loop-at-preserved
 loop-at-preserved c =
@@ -70,4 +66,4 @@ loop-at-preserved c =
     }
 
 pub returns : goal.returns
-returns c = record {met = λ ways w. sym (tried_over _ _ _ _ _ _ c.loop-at.invariant ways w c.loop-at-test.false); memo = c.loop-at.invariant.noted}
+returns c = record { met = λ ways w. sym (tried_over _ _ _ _ _ _ c.loop-at.invariant ways w c.loop-at-test.false); memo = c.loop-at.invariant.noted }

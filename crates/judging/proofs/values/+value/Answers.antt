@@ -129,7 +129,7 @@ clauses-preserved t c =
     let place = c.clauses.place in
     let ends = ap (λ (n : ℕ). place + 2 + n) c.field_at.ensures.0 in
     elim c.if-field_at-atom.branch [
-      then-field_at-atom+in-Literal+then-not-is_true w ↦
+      | then-field_at-atom+in-Literal+then-not-is_true w ↦
           let inside = bounds _ c.requires.book _ _ _ _ _ _ c.clauses.invariant c.if-i-count.false _ c.field_at.ensures.0 in
           let met = part_met _ _ _ (omega (arith, inside.0)) inside.1 _ _ _ (sym w.walk.ensures ∙ w.in-Literal.is) in
           let truth = met_truth (meaning.value (book_in a.image.now) a.set) w.in-Literal.p w.in-Literal.sign _ _ w.is_true.ensures w.value.ensures.value in
@@ -148,7 +148,7 @@ bounds-memo-slot-2 t c = small _ c.requires.book _ c.requires.atom_bound
 pub returns-clause-value : goal.returns-clause-value
 returns-clause-value t c =
     elim c.if-i-count.branch [
-      then-i-count w ↦ w.met-is ∙ sym (scan_over _ c.requires.book _ _ _ _ _ _ c.clauses.invariant w.if-i-count.true)
+      | then-i-count w ↦ w.met-is ∙ sym (scan_over _ c.requires.book _ _ _ _ _ _ c.clauses.invariant w.if-i-count.true)
       | else-i-count+then-field_at-atom+in-End w ↦
           let inside = bounds _ c.requires.book _ _ _ _ _ _ c.clauses.invariant w.if-i-count.false _ w.field_at.ensures.0 in
           w.met-is
@@ -162,7 +162,7 @@ returns-clause-memo t c =
     let b = book_in c.args.image.now in
     let noted : Noted b c.args.set c.if-i-count.memo =
     elim c.if-i-count.branch [
-      then-i-count w ↦ subst (λ (l : List ℕ). Noted b c.args.set l) (sym w.memo-is) c.clauses.invariant.noted
+      | then-i-count w ↦ subst (λ (l : List ℕ). Noted b c.args.set l) (sym w.memo-is) c.clauses.invariant.noted
       | else-i-count+then-field_at-atom+in-End w ↦ subst (λ (l : List ℕ). Noted b c.args.set l) (sym w.memo-is) w.loop-p.invariant.noted
     ] in
     noted_more b c.args.set c.args.atom _ _ c.if-i-count.memo noted (returns-clause-value t c) c.note-2.ensures

@@ -1,0 +1,3 @@
+pub mod Goal
+pub mod Reading
+pub mod PlaceLaws

@@ -1,0 +1,11 @@
+pub mod Results
+pub mod TreeLaws
+pub mod Known
+pub mod Successes
+pub mod Outcomes
+pub mod Main
+pub mod Explaining
+pub mod Admitted
+pub mod Examples
+pub mod Sheets
+pub mod Bounds

@@ -1,0 +1,15 @@
+pub mod Sound
+pub mod Complete
+pub mod Apart
+pub mod Found
+pub mod Fits
+pub mod Only
+pub mod Answers
+pub mod Mentioned
+pub mod Numbering
+pub mod Meant
+pub mod Lines
+pub mod Ranks
+pub mod Examples
+pub mod CodeLaws
+pub mod TableLaws

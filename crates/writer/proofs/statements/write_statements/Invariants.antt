@@ -1,0 +1,10 @@
+-- `writer::statements::write_statements` meets its contract. Assumes nothing.
+use Prim.Native.Nat.{◌-◌}
+use Rattle.writer.specs.Records.{Recording}
+use Rattle.writer.proofs.statements.write_statements.Given as given
+
+abbrev pub invariant-loop-i : given.invariant-loop-i
+invariant-loop-i l = Recording l.codes l.goal l.numbers l.kind l.initial.image l.at l.image l.i l.last l.count l.end
+
+abbrev pub decreases-loop-i : given.decreases-loop-i
+decreases-loop-i l = l.goal - l.i
