@@ -5,7 +5,7 @@ ghost use Rattle.std.specs.Int.Bits.{bit_and, bit_or};
 ghost use Rattle.cleaner.specs.Told.{Tells};
 
 // How many sets there are; of the hypotheses those that all of the sets have; and the members that some has.
-#[derive(Drop)]
+#[derive(Clone, Copy)]
 pub struct Listed {
     pub count: u32,
     pub every: u64,

@@ -5,19 +5,14 @@ use lib.ListN.{take}
 use lib.Seq.{length-take-le}
 use Rattle.base.specs.paper.Members.{has}
 use Rattle.cleaner.specs.Told.{every_has, any_has}
-use borrow.Author.Rules.{rules}
-use Rattle.cleaner.proofs.listed.tell.Statement.{statement}
-use Rattle.cleaner.proofs.listed.tell.Tie as tie
+use Rattle.cleaner.proofs.listed.tell.Goals as goal
 
-returns : tie.Need-returns
+pub returns : goal.returns
 returns c =
-    let e = c.before.before.before in
+    let e = c in
     let l = take e.args.count e.args.list.now in
     record {
       count = sym (length-take-le e.args.count e.args.list.now e.requires);
-      every = λ j. ap (λ (d : ℕ). has d j) c.before.in-every.ensures ∙ every_has l e.args.hypotheses j;
+      every = λ j. ap (λ (d : ℕ). has d j) c.in_every.ensures ∙ every_has l e.args.hypotheses j;
       some = λ j. ap (λ (d : ℕ). has d j) c.in_some.ensures ∙ any_has l j;
     }
-
-pub tell_spec : {M : Type 1} → statement M
-tell_spec = tie.close (tie.spec (λ c κs. search rules) (λ c κs. search rules) returns)

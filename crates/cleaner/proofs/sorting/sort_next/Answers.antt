@@ -1,0 +1,19 @@
+-- `cleaner::sorting::sort_next` meets its contract. Assumes nothing.
+use mathlib.Core.Path.{sym, ◌∙◌}
+use Rattle.cleaner.proofs.SortingLaws.{ready_one, next_skip, next_one}
+use Rattle.cleaner.proofs.sorting.sort_next.Goals as goal
+
+pub returns-then-not-is_in : goal.returns-then-not-is_in
+returns-then-not-is_in c =
+    next_skip _ _ _ _ _ _ _ c.requires.1 (sym c.is_in.ensures ∙ c.if-not-is_in.true)
+
+pub sort_one-requires : goal.sort_one-requires
+sort_one-requires c =
+    let m = c in
+    ready_one m.requires.0 _ (sym m.is_in.ensures ∙ c.if-not-is_in.false)
+
+pub returns : goal.returns
+returns c =
+    let one = c in
+    let m = one in
+    next_one _ _ _ _ _ _ _ m.requires.1 (sym m.is_in.ensures ∙ one.if-not-is_in.false) _ _ one.sort_one.ensures

@@ -1,0 +1,11 @@
+-- `cleaner::sorting::with_needed` meets its contract. Assumes nothing.
+use Prim.Native.Nat.{ℕ}
+use mathlib.Core.Path.{ap}
+use Rattle.cleaner.specs.declared.Sorted.{Sorted}
+use Rattle.cleaner.proofs.sorting.with_needed.Goals as goal
+
+pub returns : goal.returns
+returns c =
+    let s = c.args.sorted in
+    let put : ℕ → Sorted = λ x. record { unexplained = s.unexplained; needed = x; possible = s.possible; excluded = s.excluded } in
+    ap put c.with_member.ensures
