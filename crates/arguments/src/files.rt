@@ -1,16 +1,23 @@
 // The bytes of the files that arguments name.
-ghost use Rattle.std.specs.Prelude.{◌≤◌, ◌≡◌, length};
+ghost use Rattle.std.specs.Prelude.{◌≤◌, ◌≡◌, length, IfOk};
 ghost use Rattle.arguments.specs.Buffers.{file_bytes, text_bytes};
 
+use crate::argument;
 use cases::input::Length;
-use cases::output;
+use cases::{input, output};
 use image::limits::LONGEST_IMAGE;
 use spelling::LONGEST_TEXT;
+use std::io::Read;
+use std::rt::{Env, Files};
+use std::{fs, io};
 
 // One more than the longest, so that a longer one is still refused.
 const IMAGE: usize = LONGEST_IMAGE + 1;
 
 const TEXT: usize = LONGEST_TEXT + 1;
+
+// The longest name of a file, and one more.
+const PATH: usize = 4096;
 
 pub fn image_buffer() -> [u8; IMAGE]
     ensures { file_bytes ≡ length result }
@@ -33,71 +40,89 @@ fn no_length() -> Length
     }
 }
 
-// The file of this name, or standard input for `-`.
-fn opened(path: &[u8]) -> i32 {
-    if check::same(path, b"-") {
-        return libc::STDIN_FILENO;
-    }
-    os::open_read(path)
+// The file of this name, where it can be opened.
+fn opened<R: Files>(rt: &R, path: &[u8]) -> Option<R::File> {
+    let name = str::from_utf8(path).ok()?;
+    fs::open(rt, name).ok()
 }
 
-// Whether the file has come to its end, where `read_full` stopped early: another read then tells that from a fault.
-fn ended(fd: i32) -> bool {
-    let mut next = [0u8; 1];
-    libc::read(fd, &mut next) >= 0
+// Whether it is the name that stands for standard input.
+fn names_input(path: &[u8]) -> bool {
+    path == b"-".as_slice()
 }
 
-fn unopened(place: usize) {
-    output::numbered(b"unopened ", place as u64);
+// Whether this argument stands for standard input.
+pub fn is_input<R: Env>(rt: &R, place: usize) -> bool {
+    let mut path = [0u8; PATH];
+    let n = argument(rt, place, &mut path);
+    names_input(&path[..n])
 }
 
-fn unread(place: usize) {
-    output::numbered(b"unread ", place as u64);
+fn unopened<R: Print>(rt: &R, place: usize) -> io::Result<()> {
+    output::numbered(rt, b"unopened ", place as u64)
 }
 
-fn overlong(place: usize) {
-    output::numbered(b"overlong ", place as u64);
+pub fn unread<R: Print>(rt: &R, place: usize) -> io::Result<()> {
+    output::numbered(rt, b"unread ", place as u64)
+}
+
+fn overlong<R: Print>(rt: &R, place: usize) -> io::Result<()> {
+    output::numbered(rt, b"overlong ", place as u64)
 }
 
 // The file's bytes, put at the front of the buffer, and how many they are.
-fn filled(fd: i32, place: usize, bytes: &mut [u8]) -> Length
-    ensures { result.value ≤ length bytes.old }
+fn filled<R: Print, F: Read>(
+    rt: &R,
+    file: &mut F,
+    place: usize,
+    bytes: &mut [u8],
+) -> io::Result<Length>
+    ensures { IfOk result (λ taken. taken.value ≤ length bytes.old) }
 {
-    let n = io::read_full(fd, bytes);
-    if n < bytes.len() {
-        if !ended(fd) {
-            unread(place);
-            return no_length();
+    match input::take_all(file, bytes) {
+        Ok(n) => Ok(Length { ok: true, value: n }),
+        Err(_) => {
+            unread(rt, place)?;
+            Ok(no_length())
         }
     }
-    Length { ok: true, value: n }
 }
 
 // The bytes of the file that this argument names, as many as the buffer takes.
-pub fn take_file(place: usize, bytes: &mut [u8]) -> Length
-    ensures { result.value ≤ length bytes.old }
+pub fn take_file<R: Env + Files + Input + Print>(
+    rt: &R,
+    place: usize,
+    bytes: &mut [u8],
+) -> io::Result<Length>
+    ensures { IfOk result (λ taken. taken.value ≤ length bytes.old) }
 {
-    let mut path = io::buffer();
-    let n = os::arg(place, &mut path);
-    let fd = opened(&path[..n]);
-    if fd < 0 {
-        unopened(place);
-        return no_length();
+    let mut path = [0u8; PATH];
+    let n = argument(rt, place, &mut path);
+    if names_input(&path[..n]) {
+        return filled(rt, &mut rt.reader(), place, bytes);
     }
-    let taken = filled(fd, place, bytes);
-    libc::close(fd);
-    taken
+    match opened(rt, &path[..n]) {
+        Some(mut file) => filled(rt, &mut file, place, bytes),
+        None => {
+            unopened(rt, place)?;
+            Ok(no_length())
+        }
+    }
 }
 
 // All bytes of the file that this argument names, which must be fewer than the buffer takes.
-pub fn take_whole(place: usize, bytes: &mut [u8]) -> Length
-    ensures { result.value ≤ length bytes.old }
+pub fn take_whole<R: Env + Files + Input + Print>(
+    rt: &R,
+    place: usize,
+    bytes: &mut [u8],
+) -> io::Result<Length>
+    ensures { IfOk result (λ taken. taken.value ≤ length bytes.old) }
 {
     let room = bytes.len();
-    let taken = take_file(place, bytes);
+    let taken = take_file(rt, place, bytes)?;
     if room <= taken.value {
-        overlong(place);
-        return no_length();
+        overlong(rt, place)?;
+        return Ok(no_length());
     }
-    taken
+    Ok(taken)
 }

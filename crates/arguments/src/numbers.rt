@@ -1,8 +1,10 @@
 // Numbers written as decimal digits.
-ghost use Rattle.std.specs.Prelude.{◌≤◌};
+ghost use Rattle.std.specs.Prelude.{◌≤◌, IfOk};
 
-use crate::unfit;
+use crate::{argument, unfit};
 use cases::input::{Length, Number, Small};
+use std::io;
+use std::rt::Env;
 
 // The digits of the largest number of 64 bits.
 const DIGITS: usize = 20;
@@ -48,61 +50,59 @@ fn written(word: &[u8]) -> Number {
         ok: word.len() > 0,
         value: 0,
     };
-    let mut i = 0;
-    while i < word.len() {
+    for digit in word {
         if number.ok {
-            number = appended(number.value, word[i]);
+            number = appended(number.value, *digit);
         }
-        i += 1;
     }
     number
 }
 
-fn told(number: Number, place: usize) -> Number {
+fn told<R: Print>(rt: &R, number: Number, place: usize) -> io::Result<Number> {
     if !number.ok {
-        unfit(place);
+        unfit(rt, place)?;
     }
-    number
+    Ok(number)
 }
 
 // A set: a number of 64 bits.
-pub fn take_set(place: usize) -> Number {
+pub fn take_set<R: Env + Print>(rt: &R, place: usize) -> io::Result<Number> {
     let mut word = [0u8; DIGITS];
-    let n = os::arg(place, &mut word);
+    let n = argument(rt, place, &mut word);
     let set = written(&word[..n]);
-    told(set, place)
+    told(rt, set, place)
 }
 
 // A budget or a hypothesis: a number of 32 bits.
-pub fn take_number(place: usize) -> Small {
-    let number = take_set(place);
+pub fn take_number<R: Env + Print>(rt: &R, place: usize) -> io::Result<Small> {
+    let number = take_set(rt, place)?;
     if LARGEST_SMALL < number.value {
-        unfit(place);
-        return Small {
+        unfit(rt, place)?;
+        return Ok(Small {
             ok: false,
             value: 0,
-        };
+        });
     }
-    Small {
+    Ok(Small {
         ok: number.ok,
         value: number.value as u32,
-    }
+    })
 }
 
 // A room of as many entries, or of `most` if it is larger: the engine refuses both alike.
-pub fn take_room(place: usize, most: usize) -> Length
-    ensures { result.value ≤ most }
+pub fn take_room<R: Env + Print>(rt: &R, place: usize, most: usize) -> io::Result<Length>
+    ensures { IfOk result (λ room. room.value ≤ most) }
 {
-    let number = take_set(place);
+    let number = take_set(rt, place)?;
     let asked = number.value as usize;
     if most < asked {
-        return Length {
+        return Ok(Length {
             ok: number.ok,
             value: most,
-        };
+        });
     }
-    Length {
+    Ok(Length {
         ok: number.ok,
         value: asked,
-    }
+    })
 }

@@ -1,7 +1,10 @@
-// The cases' numbers, images and lists, read from standard input.
+// The cases' numbers, images and lists, taken from a reader. What the reader has not, or cannot read, is not `ok`.
 
-ghost use Rattle.std.specs.Prelude.{◌≤◌, ◌≡◌, true, length};
+ghost use Rattle.std.specs.Prelude.{◌≤◌, ◌≡◌, length, IfOk};
 ghost use Rattle.cases.specs.Buffers.{image_room, group_room, list_entries, area_numbers};
+
+use std::io;
+use std::io::Read;
 
 #[derive(Drop)]
 pub struct Number {
@@ -82,11 +85,11 @@ fn wide(x: u8) -> u64
     x as u64
 }
 
-pub fn take_u8() -> Number
+pub fn take_u8<I: Read>(input: &mut I) -> Number
     ensures { result.value ≤ 255 }
 {
     let mut buf = [0u8; 1];
-    if io::read_full(0, &mut buf) < 1 {
+    if input.read_exact(&mut buf).is_err() {
         return missing();
     }
     Number {
@@ -95,11 +98,11 @@ pub fn take_u8() -> Number
     }
 }
 
-fn take_u16() -> Number
+fn take_u16<I: Read>(input: &mut I) -> Number
     ensures { result.value ≤ 65535 }
 {
-    let high = take_u8();
-    let low = take_u8();
+    let high = take_u8(input);
+    let low = take_u8(input);
     if !low.ok {
         return missing();
     }
@@ -109,11 +112,11 @@ fn take_u16() -> Number
     }
 }
 
-pub fn take_u32() -> Number
+pub fn take_u32<I: Read>(input: &mut I) -> Number
     ensures { result.value ≤ 4294967295 }
 {
-    let high = take_u16();
-    let low = take_u16();
+    let high = take_u16(input);
+    let low = take_u16(input);
     if !low.ok {
         return missing();
     }
@@ -123,9 +126,9 @@ pub fn take_u32() -> Number
     }
 }
 
-pub fn take_u64() -> Number {
-    let high = take_u32();
-    let low = take_u32();
+pub fn take_u64<I: Read>(input: &mut I) -> Number {
+    let high = take_u32(input);
+    let low = take_u32(input);
     if !low.ok {
         return missing();
     }
@@ -145,7 +148,7 @@ fn no_length() -> Length
 }
 
 // As many bytes as the number says, put at the front of the buffer, and how many they are.
-fn take_bytes(n: Number, bytes: &mut [u8]) -> Length
+fn take_bytes<I: Read>(input: &mut I, n: Number, bytes: &mut [u8]) -> Length
     ensures { result.value ≤ length bytes.old }
 {
     if !n.ok {
@@ -155,7 +158,7 @@ fn take_bytes(n: Number, bytes: &mut [u8]) -> Length
     if bytes.len() < len {
         return no_length();
     }
-    if io::read_full(0, &mut bytes[..len]) < len {
+    if input.read_exact(&mut bytes[..len]).is_err() {
         return no_length();
     }
     Length {
@@ -165,19 +168,19 @@ fn take_bytes(n: Number, bytes: &mut [u8]) -> Length
 }
 
 // An image, or a text, with a length of four bytes.
-pub fn take_image(image: &mut [u8]) -> Length
+pub fn take_image<I: Read>(input: &mut I, image: &mut [u8]) -> Length
     ensures { result.value ≤ length image.old }
 {
-    let n = take_u32();
-    take_bytes(n, image)
+    let n = take_u32(input);
+    take_bytes(input, n, image)
 }
 
 // A group's record, with a length of two bytes.
-pub fn take_group(group: &mut [u8]) -> Length
+pub fn take_group<I: Read>(input: &mut I, group: &mut [u8]) -> Length
     ensures { result.value ≤ length group.old }
 {
-    let n = take_u16();
-    take_bytes(n, group)
+    let n = take_u16(input);
+    take_bytes(input, n, group)
 }
 
 // The number as a length of at most `most`.
@@ -198,24 +201,24 @@ fn at_most(n: Number, most: usize) -> Length
 }
 
 // A room of at most `most` entries.
-pub fn take_room(most: usize) -> Length
+pub fn take_room<I: Read>(input: &mut I, most: usize) -> Length
     ensures { result.value ≤ most }
 {
-    let n = take_u16();
+    let n = take_u16(input);
     at_most(n, most)
 }
 
 // A length of at most `most`, of four bytes.
-pub fn take_length(most: usize) -> Length
+pub fn take_length<I: Read>(input: &mut I, most: usize) -> Length
     ensures { result.value ≤ most }
 {
-    let n = take_u32();
+    let n = take_u32(input);
     at_most(n, most)
 }
 
 // A budget or a hypothesis, of four bytes.
-pub fn take_number() -> Small {
-    let n = take_u32();
+pub fn take_number<I: Read>(input: &mut I) -> Small {
+    let n = take_u32(input);
     Small {
         ok: n.ok,
         value: n.value as u32,
@@ -223,12 +226,12 @@ pub fn take_number() -> Small {
 }
 
 // Budget, room and work length of a search.
-pub fn take_means() -> Allowance
+pub fn take_means<I: Read>(input: &mut I) -> Allowance
     ensures { (result.room ≤ list_entries) × (result.space ≤ area_numbers) }
 {
-    let budget = take_number();
-    let room = take_room(ENTRIES);
-    let space = take_length(WORK);
+    let budget = take_number(input);
+    let room = take_room(input, ENTRIES);
+    let space = take_length(input, WORK);
     Allowance {
         ok: budget.ok && (room.ok && space.ok),
         budget: budget.value,
@@ -238,22 +241,35 @@ pub fn take_means() -> Allowance
 }
 
 // A count and as many sets, put at the front of the list.
-pub fn take_list(list: &mut [u64]) -> Length
+pub fn take_list<I: Read>(input: &mut I, list: &mut [u64]) -> Length
     ensures { result.value ≤ length list.old }
 {
-    let room = take_room(list.len());
+    let room = take_room(input, list.len());
     if !room.ok {
         return no_length();
     }
     let n = room.value;
-    let mut i = 0;
-    while i < n {
-        let set = take_u64();
+    for entry in &mut list[..n] {
+        let set = take_u64(input);
         if !set.ok {
             return no_length();
         }
-        list[i] = set.value;
-        i += 1;
+        *entry = set.value;
     }
     Length { ok: true, value: n }
+}
+
+// All that the reader has, put at the front of the buffer, as far as that goes, and how many bytes they are.
+pub fn take_all<I: Read>(input: &mut I, bytes: &mut [u8]) -> io::Result<usize>
+    ensures { IfOk result (λ n. n ≤ length bytes.old) }
+{
+    let mut n = 0;
+    while n < bytes.len() {
+        let more = input.read(&mut bytes[n..])?;
+        if more == 0 {
+            break;
+        }
+        n += more;
+    }
+    Ok(n)
 }

@@ -1,54 +1,49 @@
-// The lines of the answers, written to standard output.
+// The lines of the answers, printed.
 use crate::input::NUMBER;
 use area::END;
+use std::io;
 
-pub fn line(text: &[u8]) {
-    io::write_all(1, text);
-    io::write_all(1, b"\n");
+pub fn line<R: Print>(rt: &R, text: &[u8]) -> io::Result<()> {
+    rt.write_all(text)?;
+    end(rt)
 }
 
 // A word and a number, and the line goes on.
-pub fn count(word: &[u8], n: u64) {
-    io::write_all(1, word);
-    io::print_decimal(1, n);
+pub fn count<R: Print>(rt: &R, word: &[u8], n: u64) -> io::Result<()> {
+    rt.write_all(word)?;
+    rt.print(n)
 }
 
-pub fn numbered(word: &[u8], n: u64) {
-    count(word, n);
-    io::write_all(1, b"\n");
+pub fn numbered<R: Print>(rt: &R, word: &[u8], n: u64) -> io::Result<()> {
+    count(rt, word, n)?;
+    end(rt)
 }
 
 // The image's own refusal where nothing is searched, and the line ends.
-pub fn broken(number: u8, place: usize) {
-    count(b"refused ", number as u64);
-    numbered(b" at ", place as u64);
+pub fn broken<R: Print>(rt: &R, number: u8, place: usize) -> io::Result<()> {
+    count(rt, b"refused ", number as u64)?;
+    numbered(rt, b" at ", place as u64)
 }
 
 // The same where a search would tell its nodes, and the line goes on.
-pub fn unsearched(number: u8, place: usize) {
-    searched(b"refused ", number as u32, 0);
-    count(b" at ", place as u64);
+pub fn unsearched<R: Print>(rt: &R, number: u8, place: usize) -> io::Result<()> {
+    searched(rt, b"refused ", number as u32, 0)?;
+    count(rt, b" at ", place as u64)
 }
 
 // A word with its number, and the nodes.
-pub fn searched(word: &[u8], number: u32, nodes: u32) {
-    count(word, number as u64);
-    count(b" nodes ", nodes as u64);
-}
-
-fn entry(set: u64) {
-    io::write_all(1, b" ");
-    io::print_decimal(1, set);
+pub fn searched<R: Print>(rt: &R, word: &[u8], number: u32, nodes: u32) -> io::Result<()> {
+    count(rt, word, number as u64)?;
+    count(rt, b" nodes ", nodes as u64)
 }
 
 // ` sets` and the entries.
-pub fn entries(list: &[u64]) {
-    io::write_all(1, b" sets");
-    let mut i = 0;
-    while i < list.len() {
-        entry(list[i]);
-        i += 1;
+pub fn entries<R: Print>(rt: &R, list: &[u64]) -> io::Result<()> {
+    print!(rt; " sets")?;
+    for set in list {
+        print!(rt; " {set}")?;
     }
+    Ok(())
 }
 
 // Whether the numbers from `from` on, up to `to`, are all this one.
@@ -66,30 +61,28 @@ fn are(work: &[u32], from: usize, to: usize, number: u32) -> bool {
 }
 
 // How the work area was left.
-pub fn work_state(work: &[u32]) {
+pub fn work_state<R: Print>(rt: &R, work: &[u32]) -> io::Result<()> {
     let n = work.len();
     if are(work, 0, n, NUMBER) {
-        io::write_all(1, b" work untouched");
-        return;
+        return print!(rt; " work untouched");
     }
     if END <= n {
         if are(work, 0, END, 0) {
             if are(work, END, n, NUMBER) {
-                io::write_all(1, b" work clean");
-                return;
+                return print!(rt; " work clean");
             }
         }
     }
-    io::write_all(1, b" work other");
+    print!(rt; " work other")
 }
 
-pub fn end() {
-    io::write_all(1, b"\n");
+pub fn end<R: Print>(rt: &R) -> io::Result<()> {
+    println!(rt)
 }
 
 // What a search leaves behind, and the line ends.
-pub fn left(sets: &[u64], work: &[u32]) {
-    entries(sets);
-    work_state(work);
-    end();
+pub fn left<R: Print>(rt: &R, sets: &[u64], work: &[u32]) -> io::Result<()> {
+    entries(rt, sets)?;
+    work_state(rt, work)?;
+    end(rt)
 }

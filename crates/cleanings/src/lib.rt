@@ -2,16 +2,18 @@
 // safe are taken, and a line is written for each group (paper 02, A4.10).
 #![tactic(auto)]
 
-ghost use Rattle.std.specs.Prelude.{◌≤◌, ◌<◌, ◌≡◌, length};
+ghost use Rattle.std.specs.Prelude.{◌≤◌, ◌<◌, ◌≡◌, length, IfOk};
 ghost use Rattle.sets.specs.SetLaws.{set_bits};
 ghost use Rattle.cleanings.specs.Buffers.{groups_bytes};
 
 use area::END;
-use arguments::{files, numbers, unfit};
-use cases::input::{Number, Small};
+use arguments::{files, is_given, numbers, unfit};
+use cases::input::{Length, Number, Small};
 use cases::output;
 use image::fields::field_at;
 use sets::members::{SET_BITS, with_member};
+use std::io;
+use std::rt::{Env, Files};
 
 // The places of what the job takes: argument 1 is the job itself.
 const BOOK: usize = 2;
@@ -57,95 +59,123 @@ fn record_end(groups: &[u8], at: usize) -> usize
 }
 
 // The group's number, which a malformed record does not have.
-fn number(group: &[u8]) {
+fn number<R: Print>(rt: &R, group: &[u8]) -> io::Result<()> {
     if groups::is_well_formed(group) {
-        output::count(b"group ", groups::number(group) as u64);
+        output::count(rt, b"group ", groups::number(group) as u64)
     } else {
-        io::write_all(1, b"group ?");
+        print!(rt; "group ?")
     }
 }
 
-fn line(book: &[u8], group: &[u8], hypotheses: u64, sets: &mut [u64], work: &mut [u32]) {
+fn line<R: Print>(
+    rt: &R,
+    book: &[u8],
+    group: &[u8],
+    hypotheses: u64,
+    sets: &mut [u64],
+    work: &mut [u32],
+) -> io::Result<()> {
     let answer = cleaner::clean(book, group, hypotheses, BUDGET, sets, work);
-    number(group);
-    io::write_all(1, b" ");
-    verdicts::tell(answer, b"held refused ");
-    output::end();
+    number(rt, group)?;
+    print!(rt; " ")?;
+    verdicts::tell(rt, answer, b"held refused ")?;
+    output::end(rt)
 }
 
 // A line for each record. List and work area are lent again and again: no group's answer depends on what another left there.
-fn lines(book: &[u8], groups: &[u8], hypotheses: u64, sets: &mut [u64], work: &mut [u32]) {
+fn lines<R: Print>(
+    rt: &R,
+    book: &[u8],
+    groups: &[u8],
+    hypotheses: u64,
+    sets: &mut [u64],
+    work: &mut [u32],
+) -> io::Result<()> {
     let mut at = 0;
     while at < groups.len() {
         let end = record_end(groups, at);
-        line(book, &groups[at..end], hypotheses, sets, work);
+        line(rt, book, &groups[at..end], hypotheses, sets, work)?;
         at = end;
     }
+    Ok(())
 }
 
 // A hypothesis: a number that a set has room for.
-fn take_hypothesis(place: usize) -> Small
-    ensures { result.value < set_bits }
+fn take_hypothesis<R: Env + Print>(rt: &R, place: usize) -> io::Result<Small>
+    ensures { IfOk result (λ h. h.value < set_bits) }
 {
-    let number = numbers::take_number(place);
+    let number = numbers::take_number(rt, place)?;
     if SET_BITS <= number.value {
-        unfit(place);
-        return Small {
+        unfit(rt, place)?;
+        return Ok(Small {
             ok: false,
             value: 0,
-        };
+        });
     }
-    number
+    Ok(number)
 }
 
 // All arguments from the first hypothesis on, which must be there, as a set.
-fn take_hypotheses() -> Number {
-    let count = os::arg_count();
+fn take_hypotheses<R: Env + Print>(rt: &R) -> io::Result<Number> {
     let mut set = 0;
-    let mut place = HYPOTHESES;
-    loop {
-        let h = take_hypothesis(place);
+    for place in HYPOTHESES..usize::MAX {
+        let h = take_hypothesis(rt, place)?;
         set = with_member(set, h.value);
         if !h.ok {
-            break Number {
+            return Ok(Number {
                 ok: false,
                 value: 0,
-            };
+            });
         }
-        place += 1;
-        if count <= place {
-            break Number {
-                ok: true,
-                value: set,
-            };
+        if !is_given(rt, place + 1) {
+            break;
         }
     }
+    Ok(Number {
+        ok: true,
+        value: set,
+    })
 }
 
-pub fn clean() {
+// The file of groups. Standard input that has given the book gives nothing more.
+fn take_groups<R: Env + Files + Input + Print>(rt: &R, groups: &mut [u8]) -> io::Result<Length>
+    ensures { IfOk result (λ found. found.value ≤ length groups.old) }
+{
+    if files::is_input(rt, BOOK) && files::is_input(rt, GROUPS) {
+        files::unread(rt, GROUPS)?;
+        return Ok(Length {
+            ok: false,
+            value: 0,
+        });
+    }
+    files::take_whole(rt, GROUPS, groups)
+}
+
+pub fn clean<R: Env + Files + Input + Print>(rt: &R) -> io::Result<()> {
     let mut book = files::image_buffer();
     let mut groups = groups_buffer();
-    let taken = files::take_file(BOOK, &mut book);
+    let taken = files::take_file(rt, BOOK, &mut book)?;
     if !taken.ok {
-        return;
+        return Ok(());
     }
-    let found = files::take_whole(GROUPS, &mut groups);
+    let found = take_groups(rt, &mut groups)?;
     if !found.ok {
-        return;
+        return Ok(());
     }
-    let hypotheses = take_hypotheses();
+    let hypotheses = take_hypotheses(rt)?;
     if !hypotheses.ok {
-        return;
+        return Ok(());
     }
     let mut sets = [0u64; ROOM];
     let mut work = [0u32; END];
     let n = taken.value;
     let m = found.value;
     lines(
+        rt,
         &book[..n],
         &groups[..m],
         hypotheses.value,
         &mut sets,
         &mut work,
-    );
+    )
 }

@@ -24,30 +24,30 @@
 // A job is found by its name here; the first six are in crate jobs, then two in crate texts, and the last in crate cleanings.
 #![tactic(auto)]
 
-
 use arguments::asked;
 use cases::output;
+use std::io;
 
-fn main() {
-    if asked(b"check") {
-        jobs::check();
-    } else if asked(b"judge") {
-        jobs::judge();
-    } else if asked(b"list") {
-        jobs::list();
-    } else if asked(b"verdict") {
-        jobs::verdict();
-    } else if asked(b"admits") {
-        jobs::admits();
-    } else if asked(b"join") {
-        jobs::join();
-    } else if asked(b"image") {
-        texts::image();
-    } else if asked(b"names") {
-        texts::names();
-    } else if asked(b"clean") {
-        cleanings::clean();
+fn main(rt: HostRuntime) -> io::Result<()> {
+    if asked(&rt, b"check") {
+        jobs::check(&rt)
+    } else if asked(&rt, b"judge") {
+        jobs::judge(&rt)
+    } else if asked(&rt, b"list") {
+        jobs::list(&rt)
+    } else if asked(&rt, b"verdict") {
+        jobs::verdict(&rt)
+    } else if asked(&rt, b"admits") {
+        jobs::admits(&rt)
+    } else if asked(&rt, b"join") {
+        jobs::join(&rt)
+    } else if asked(&rt, b"image") {
+        texts::image(&rt)
+    } else if asked(&rt, b"names") {
+        texts::names(&rt)
+    } else if asked(&rt, b"clean") {
+        cleanings::clean(&rt)
     } else {
-        output::line(b"unknown");
+        output::line(&rt, b"unknown")
     }
 }

@@ -3,6 +3,8 @@
 
 use arguments::{files, numbers};
 use cases::{input, output};
+use std::io;
+use std::rt::{Env, Files};
 
 // The places of what a job takes: argument 1 is the job itself.
 const FIRST: usize = 2;
@@ -13,117 +15,118 @@ const THIRD: usize = 4;
 
 const FOURTH: usize = 5;
 
-pub fn check() {
+pub fn check<R: Env + Files + Input + Print>(rt: &R) -> io::Result<()> {
     let mut image = files::image_buffer();
-    let taken = files::take_file(FIRST, &mut image);
+    let taken = files::take_file(rt, FIRST, &mut image)?;
     if !taken.ok {
-        return;
+        return Ok(());
     }
     let n = taken.value;
-    answers::read(&image[..n]);
+    answers::read(rt, &image[..n])
 }
 
-pub fn judge() {
+pub fn judge<R: Env + Files + Input + Print>(rt: &R) -> io::Result<()> {
     let mut image = files::image_buffer();
-    let taken = files::take_file(FIRST, &mut image);
+    let taken = files::take_file(rt, FIRST, &mut image)?;
     if !taken.ok {
-        return;
+        return Ok(());
     }
-    let set = numbers::take_set(SECOND);
+    let set = numbers::take_set(rt, SECOND)?;
     if !set.ok {
-        return;
+        return Ok(());
     }
     let n = taken.value;
-    answers::judge(&image[..n], set.value);
+    answers::judge(rt, &image[..n], set.value)
 }
 
-pub fn list() {
+pub fn list<R: Env + Files + Input + Print>(rt: &R) -> io::Result<()> {
     let mut image = files::image_buffer();
     let mut sets = input::list_buffer();
     let mut work = input::work_buffer();
-    let taken = files::take_file(FIRST, &mut image);
+    let taken = files::take_file(rt, FIRST, &mut image)?;
     if !taken.ok {
-        return;
+        return Ok(());
     }
-    let budget = numbers::take_number(SECOND);
+    let budget = numbers::take_number(rt, SECOND)?;
     if !budget.ok {
-        return;
+        return Ok(());
     }
-    let room = numbers::take_room(THIRD, input::ENTRIES);
+    let room = numbers::take_room(rt, THIRD, input::ENTRIES)?;
     if !room.ok {
-        return;
+        return Ok(());
     }
     let n = taken.value;
     let r = room.value;
-    answers::list(&image[..n], budget.value, &mut sets[..r], &mut work);
+    answers::list(rt, &image[..n], budget.value, &mut sets[..r], &mut work)
 }
 
-pub fn verdict() {
+pub fn verdict<R: Env + Files + Input + Print>(rt: &R) -> io::Result<()> {
     let mut image = files::image_buffer();
     let mut sets = input::list_buffer();
     let mut work = input::work_buffer();
-    let taken = files::take_file(FIRST, &mut image);
+    let taken = files::take_file(rt, FIRST, &mut image)?;
     if !taken.ok {
-        return;
+        return Ok(());
     }
-    let hypothesis = numbers::take_number(SECOND);
+    let hypothesis = numbers::take_number(rt, SECOND)?;
     if !hypothesis.ok {
-        return;
+        return Ok(());
     }
-    let budget = numbers::take_number(THIRD);
+    let budget = numbers::take_number(rt, THIRD)?;
     if !budget.ok {
-        return;
+        return Ok(());
     }
-    let room = numbers::take_room(FOURTH, input::ENTRIES);
+    let room = numbers::take_room(rt, FOURTH, input::ENTRIES)?;
     if !room.ok {
-        return;
+        return Ok(());
     }
     let n = taken.value;
     let r = room.value;
     answers::verdict(
+        rt,
         &image[..n],
         hypothesis.value,
         budget.value,
         &mut sets[..r],
         &mut work,
-    );
+    )
 }
 
-pub fn admits() {
+pub fn admits<R: Env + Files + Input + Print>(rt: &R) -> io::Result<()> {
     let mut image = files::image_buffer();
     let mut work = input::work_buffer();
-    let taken = files::take_file(FIRST, &mut image);
+    let taken = files::take_file(rt, FIRST, &mut image)?;
     if !taken.ok {
-        return;
+        return Ok(());
     }
-    let hypothesis = numbers::take_number(SECOND);
+    let hypothesis = numbers::take_number(rt, SECOND)?;
     if !hypothesis.ok {
-        return;
+        return Ok(());
     }
-    let budget = numbers::take_number(THIRD);
+    let budget = numbers::take_number(rt, THIRD)?;
     if !budget.ok {
-        return;
+        return Ok(());
     }
     let n = taken.value;
-    answers::admits(&image[..n], hypothesis.value, budget.value, &mut work);
+    answers::admits(rt, &image[..n], hypothesis.value, budget.value, &mut work)
 }
 
-pub fn join() {
+pub fn join<R: Env + Input + Print>(rt: &R) -> io::Result<()> {
     let mut left = input::list_buffer();
     let mut right = input::list_buffer();
     let mut out = input::list_buffer();
-    let room = numbers::take_room(FIRST, input::ENTRIES);
+    let room = numbers::take_room(rt, FIRST, input::ENTRIES)?;
     if !room.ok {
-        return;
+        return Ok(());
     }
-    let n = input::take_list(&mut left);
-    let m = input::take_list(&mut right);
+    let mut lists = rt.reader();
+    let n = input::take_list(&mut lists, &mut left);
+    let m = input::take_list(&mut lists, &mut right);
     if !(n.ok && m.ok) {
-        output::line(b"unlisted");
-        return;
+        return output::line(rt, b"unlisted");
     }
     let a = n.value;
     let b = m.value;
     let c = room.value;
-    answers::join(&left[..a], &right[..b], &mut out[..c]);
+    answers::join(rt, &left[..a], &right[..b], &mut out[..c])
 }

@@ -7,9 +7,11 @@ ghost use Rattle.listing.specs.Buffers.{input_bytes, room};
 ghost use Rattle.area.specs.paper.Work.{work_numbers};
 
 use area::END;
+use cases::input;
 use engine::Listing;
 use image::limits::{LONGEST_IMAGE, MOST_ABDUCIBLES};
 use sets::members::is_in;
+use std::io;
 
 const BUDGET: u32 = 100_000;
 
@@ -36,80 +38,60 @@ fn work_area() -> [u32; END]
 }
 
 // The first line: a word with its number, and the nodes; the line goes on.
-fn head(word: &[u8], number: u32, nodes: u32) {
-    io::write_all(1, word);
-    io::print_decimal(1, number as u64);
-    io::write_all(1, b" nodes ");
-    io::print_decimal(1, nodes as u64);
-}
-
-// Where the image is broken, behind its refusal.
-fn at_place(place: usize) {
-    io::write_all(1, b" at ");
-    io::print_decimal(1, place as u64);
-}
-
-fn member(abducible: u32) {
-    io::write_all(1, b" ");
-    io::print_decimal(1, abducible as u64);
+fn head<R: Print>(rt: &R, word: &str, number: u32, nodes: u32) -> io::Result<()> {
+    print!(rt; "{word} {number} nodes {nodes}")
 }
 
 // A space before each abducible of the set, ascending.
-fn members(set: u64) {
-    let mut j: u32 = 0;
-    while j < MOST_ABDUCIBLES {
+fn members<R: Print>(rt: &R, set: u64) -> io::Result<()> {
+    for j in 0..MOST_ABDUCIBLES {
         if is_in(set, j) {
-            member(j);
+            print!(rt; " {j}")?;
         }
-        j += 1;
     }
+    Ok(())
 }
 
-fn set_line(place: usize, set: u64) {
-    io::print_decimal(1, place as u64);
-    io::write_all(1, b":");
+fn set_line<R: Print>(rt: &R, place: usize, set: u64) -> io::Result<()> {
+    print!(rt; "{place}:")?;
     if set == 0 {
-        io::write_all(1, b" none");
+        print!(rt; " none")?;
     } else {
-        members(set);
+        members(rt, set)?;
     }
-    io::write_all(1, b"\n");
+    println!(rt)
 }
 
 // A line for each of the first `count` sets.
-fn lines(sets: &[u64], count: usize) {
-    let mut i = 0;
-    while i < sets.len() {
-        if i < count {
-            set_line(i + 1, sets[i]);
-        }
-        i += 1;
+fn lines<R: Print>(rt: &R, sets: &[u64], count: usize) -> io::Result<()> {
+    for (i, set) in sets.iter().take(count).enumerate() {
+        set_line(rt, i + 1, *set)?;
     }
+    Ok(())
 }
 
-fn show(image: &[u8], sets: &mut [u64], work: &mut [u32]) {
+fn show<R: Print>(rt: &R, image: &[u8], sets: &mut [u64], work: &mut [u32]) -> io::Result<()> {
     match engine::list(image, BUDGET, sets, work) {
         Listing::Listed(count, nodes) => {
-            head(b"sets ", count, nodes);
-            io::write_all(1, b"\n");
-            lines(sets, count as usize);
+            head(rt, "sets", count, nodes)?;
+            println!(rt)?;
+            lines(rt, sets, count as usize)
         }
         Listing::Broken(number, place) => {
-            head(b"refused ", number as u32, 0);
-            at_place(place);
-            io::write_all(1, b"\n");
+            head(rt, "refused", number as u32, 0)?;
+            println!(rt; " at {place}")
         }
         Listing::Refused(number, nodes) => {
-            head(b"refused ", number as u32, nodes);
-            io::write_all(1, b"\n");
+            head(rt, "refused", number as u32, nodes)?;
+            println!(rt)
         }
     }
 }
 
-fn main() {
+fn main(rt: HostRuntime) -> io::Result<()> {
     let mut image = image_buffer();
     let mut sets = list_buffer();
     let mut work = work_area();
-    let n = io::read_full(0, &mut image);
-    show(&image[..n], &mut sets, &mut work);
+    let n = input::take_all(&mut rt.stdin(), &mut image)?;
+    show(&rt, &image[..n], &mut sets, &mut work)
 }

@@ -3,122 +3,137 @@
 #![tactic(auto)]
 
 use cases::input;
+use std::io;
+use std::io::Read;
 
-pub fn read_case() -> bool {
+pub fn read_case<R: Print, I: Read>(rt: &R, input: &mut I) -> io::Result<bool> {
     let mut image = input::image_buffer();
-    let taken = input::take_image(&mut image);
+    let taken = input::take_image(input, &mut image);
     if !taken.ok {
-        return false;
+        return Ok(false);
     }
     let n = taken.value;
-    answers::read(&image[..n]);
-    true
+    answers::read(rt, &image[..n])?;
+    Ok(true)
 }
 
-pub fn judge_case() -> bool {
+pub fn judge_case<R: Print, I: Read>(rt: &R, input: &mut I) -> io::Result<bool> {
     let mut image = input::image_buffer();
-    let taken = input::take_image(&mut image);
-    let set = input::take_u64();
+    let taken = input::take_image(input, &mut image);
+    let set = input::take_u64(input);
     if !taken.ok {
-        return false;
+        return Ok(false);
     }
     if !set.ok {
-        return false;
+        return Ok(false);
     }
     let n = taken.value;
-    answers::judge(&image[..n], set.value);
-    true
+    answers::judge(rt, &image[..n], set.value)?;
+    Ok(true)
 }
 
-pub fn list_case() -> bool {
+pub fn list_case<R: Print, I: Read>(rt: &R, input: &mut I) -> io::Result<bool> {
     let mut image = input::image_buffer();
     let mut sets = input::list_buffer();
     let mut work = input::work_buffer();
-    let taken = input::take_image(&mut image);
-    let means = input::take_means();
+    let taken = input::take_image(input, &mut image);
+    let means = input::take_means(input);
     if !taken.ok {
-        return false;
+        return Ok(false);
     }
     if !means.ok {
-        return false;
+        return Ok(false);
     }
     let n = taken.value;
     let r = means.room;
     let w = means.space;
-    answers::list(&image[..n], means.budget, &mut sets[..r], &mut work[..w]);
-    true
+    answers::list(
+        rt,
+        &image[..n],
+        means.budget,
+        &mut sets[..r],
+        &mut work[..w],
+    )?;
+    Ok(true)
 }
 
-pub fn verdict_case() -> bool {
+pub fn verdict_case<R: Print, I: Read>(rt: &R, input: &mut I) -> io::Result<bool> {
     let mut image = input::image_buffer();
     let mut sets = input::list_buffer();
     let mut work = input::work_buffer();
-    let taken = input::take_image(&mut image);
-    let hypothesis = input::take_number();
-    let means = input::take_means();
+    let taken = input::take_image(input, &mut image);
+    let hypothesis = input::take_number(input);
+    let means = input::take_means(input);
     if !taken.ok {
-        return false;
+        return Ok(false);
     }
     if !hypothesis.ok {
-        return false;
+        return Ok(false);
     }
     if !means.ok {
-        return false;
+        return Ok(false);
     }
     let n = taken.value;
     let r = means.room;
     let w = means.space;
     answers::verdict(
+        rt,
         &image[..n],
         hypothesis.value,
         means.budget,
         &mut sets[..r],
         &mut work[..w],
-    );
-    true
+    )?;
+    Ok(true)
 }
 
-pub fn admits_case() -> bool {
+pub fn admits_case<R: Print, I: Read>(rt: &R, input: &mut I) -> io::Result<bool> {
     let mut image = input::image_buffer();
     let mut work = input::work_buffer();
-    let taken = input::take_image(&mut image);
-    let hypothesis = input::take_number();
-    let budget = input::take_number();
-    let space = input::take_length(input::WORK);
+    let taken = input::take_image(input, &mut image);
+    let hypothesis = input::take_number(input);
+    let budget = input::take_number(input);
+    let space = input::take_length(input, input::WORK);
     if !(hypothesis.ok && budget.ok) {
-        return false;
+        return Ok(false);
     }
     if !taken.ok {
-        return false;
+        return Ok(false);
     }
     if !space.ok {
-        return false;
+        return Ok(false);
     }
     let n = taken.value;
     let w = space.value;
-    answers::admits(&image[..n], hypothesis.value, budget.value, &mut work[..w]);
-    true
+    answers::admits(
+        rt,
+        &image[..n],
+        hypothesis.value,
+        budget.value,
+        &mut work[..w],
+    )?;
+    Ok(true)
 }
 
-pub fn join_case() -> bool {
+pub fn join_case<R: Print, I: Read>(rt: &R, input: &mut I) -> io::Result<bool> {
     let mut left = input::list_buffer();
     let mut right = input::list_buffer();
     let mut out = input::list_buffer();
-    let n = input::take_list(&mut left);
-    let m = input::take_list(&mut right);
-    let room = input::take_room(input::ENTRIES);
+    let n = input::take_list(input, &mut left);
+    let m = input::take_list(input, &mut right);
+    let room = input::take_room(input, input::ENTRIES);
     if !n.ok {
-        return false;
+        return Ok(false);
     }
     if !m.ok {
-        return false;
+        return Ok(false);
     }
     if !room.ok {
-        return false;
+        return Ok(false);
     }
     let a = n.value;
     let b = m.value;
     let c = room.value;
-    answers::join(&left[..a], &right[..b], &mut out[..c]);
-    true
+    answers::join(rt, &left[..a], &right[..b], &mut out[..c])?;
+    Ok(true)
 }

@@ -26,43 +26,43 @@
 // What an operation does is in crate operations for 1 to 5 and 13, in crate rooms for 6 and 12, and in crate verdicts for 7.
 #![tactic(auto)]
 
-
 use cases::{input, output};
+use std::io;
+use std::io::Read;
 
 // The case of this operation, and whether it was well formed.
-fn answered(operation: u64) -> bool {
+fn answered<R: Print, I: Read>(rt: &R, input: &mut I, operation: u64) -> io::Result<bool> {
     match operation {
-        1 => operations::read_case(),
-        2 => operations::judge_case(),
-        3 => operations::list_case(),
-        4 => operations::verdict_case(),
-        5 => operations::join_case(),
-        6 => rooms::text_case(),
-        7 => verdicts::clean_case(),
-        12 => rooms::names_case(),
-        13 => operations::admits_case(),
-        _ => false,
+        1 => operations::read_case(rt, input),
+        2 => operations::judge_case(rt, input),
+        3 => operations::list_case(rt, input),
+        4 => operations::verdict_case(rt, input),
+        5 => operations::join_case(rt, input),
+        6 => rooms::text_case(rt, input),
+        7 => verdicts::clean_case(rt, input),
+        12 => rooms::names_case(rt, input),
+        13 => operations::admits_case(rt, input),
+        _ => Ok(false),
     }
 }
 
-fn bad_case() {
-    output::line(b"bad case");
+fn bad_case<R: Print>(rt: &R) -> io::Result<()> {
+    output::line(rt, b"bad case")
 }
 
 // A run ends after so many cases at the latest: a program has an end.
 const MOST_CASES: u32 = 1_000_000_000;
 
-fn main() {
-    let mut n: u32 = 0;
-    while n < MOST_CASES {
-        let operation = input::take_u8();
+fn main(rt: HostRuntime) -> io::Result<()> {
+    let mut input = rt.stdin();
+    for _ in 0..MOST_CASES {
+        let operation = input::take_u8(&mut input);
         if !operation.ok {
-            return;
+            return Ok(());
         }
-        if !answered(operation.value) {
-            bad_case();
-            return;
+        if !answered(&rt, &mut input, operation.value)? {
+            return bad_case(&rt);
         }
-        n += 1;
     }
+    Ok(())
 }

@@ -5,12 +5,13 @@
 //   refused R room untouched | refused R room other
 #![tactic(auto)]
 
-
 ghost use Rattle.std.specs.Prelude.{◌≤◌, ◌≡◌, length};
 ghost use Rattle.rooms.specs.Buffers.{text_bytes, room_bytes, digit_bytes};
 
 use cases::{input, output};
 use image::Writing;
+use std::io;
+use std::io::Read;
 
 // The most that a case may name: bytes of a text, and of a room.
 const TEXT: usize = 40000;
@@ -72,7 +73,7 @@ fn digit_buffer() -> [u8; DIGITS]
 }
 
 // The first n bytes, two digits each.
-fn hex(room: &[u8], n: usize)
+fn hex<R: Print>(rt: &R, room: &[u8], n: usize) -> io::Result<()>
     requires { (n ≤ length room.now) × (n ≤ room_bytes) }
 {
     let mut digits = digit_buffer();
@@ -83,7 +84,7 @@ fn hex(room: &[u8], n: usize)
         digits[2 * i + 1] = low_digit(b);
         i += 1;
     }
-    io::write_all(1, &digits[..2 * n]);
+    rt.write_all(&digits[..2 * n])
 }
 
 // Whether the bytes from `from` on are as they were before the call.
@@ -98,77 +99,69 @@ fn is_untouched(room: &[u8], from: usize) -> bool {
     true
 }
 
-fn left(untouched: bool) {
+fn left<R: Print>(rt: &R, untouched: bool) -> io::Result<()> {
     if untouched {
-        output::line(b" untouched");
+        output::line(rt, b" untouched")
     } else {
-        output::line(b" other");
+        output::line(rt, b" other")
     }
 }
 
-fn written(n: u32, room: &[u8]) {
-    output::count(b"written ", n as u64);
-    io::write_all(1, b" bytes ");
+fn written<R: Print>(rt: &R, n: u32, room: &[u8]) -> io::Result<()> {
+    print!(rt; "written {n} bytes ")?;
     let bytes = least(least(n as usize, room.len()), ROOM);
-    hex(room, bytes);
-    io::write_all(1, b" rest");
-    left(is_untouched(room, bytes));
+    hex(rt, room, bytes)?;
+    print!(rt; " rest")?;
+    left(rt, is_untouched(room, bytes))
 }
 
-fn refused(number: u8, room: &[u8]) {
-    output::count(b"refused ", number as u64);
-    io::write_all(1, b" room");
-    left(is_untouched(room, 0));
+fn refused<R: Print>(rt: &R, number: u8, room: &[u8]) -> io::Result<()> {
+    print!(rt; "refused {number} room")?;
+    left(rt, is_untouched(room, 0))
 }
 
 // The line of an answer.
-pub fn tell(answer: Writing, room: &[u8]) {
+pub fn tell<R: Print>(rt: &R, answer: Writing, room: &[u8]) -> io::Result<()> {
     match answer {
-        Writing::Written(n) => written(n, room),
-        Writing::Refused(r) => refused(r, room),
+        Writing::Written(n) => written(rt, n, room),
+        Writing::Refused(r) => refused(rt, r, room),
     }
 }
 
-pub fn read(text: &[u8], room: &mut [u8]) {
+pub fn read<R: Print>(rt: &R, text: &[u8], room: &mut [u8]) -> io::Result<()> {
     let answer = text::read(text, room);
-    tell(answer, room);
+    tell(rt, answer, room)
 }
 
-pub fn names(text: &[u8], room: &mut [u8]) {
+pub fn names<R: Print>(rt: &R, text: &[u8], room: &mut [u8]) -> io::Result<()> {
     let answer = text::names(text, room);
-    tell(answer, room);
+    tell(rt, answer, room)
 }
 
-pub fn text_case() -> bool {
+pub fn text_case<R: Print, I: Read>(rt: &R, input: &mut I) -> io::Result<bool> {
     let mut text = text_buffer();
     let mut room = room_buffer();
-    let taken = input::take_image(&mut text);
-    let space = input::take_length(ROOM);
-    if !taken.ok {
-        return false;
-    }
-    if !space.ok {
-        return false;
+    let taken = input::take_image(input, &mut text);
+    let space = input::take_length(input, ROOM);
+    if !(taken.ok && space.ok) {
+        return Ok(false);
     }
     let n = taken.value;
     let r = space.value;
-    read(&text[..n], &mut room[..r]);
-    true
+    read(rt, &text[..n], &mut room[..r])?;
+    Ok(true)
 }
 
-pub fn names_case() -> bool {
+pub fn names_case<R: Print, I: Read>(rt: &R, input: &mut I) -> io::Result<bool> {
     let mut text = text_buffer();
     let mut room = room_buffer();
-    let taken = input::take_image(&mut text);
-    let space = input::take_length(ROOM);
-    if !taken.ok {
-        return false;
-    }
-    if !space.ok {
-        return false;
+    let taken = input::take_image(input, &mut text);
+    let space = input::take_length(input, ROOM);
+    if !(taken.ok && space.ok) {
+        return Ok(false);
     }
     let n = taken.value;
     let r = space.value;
-    names(&text[..n], &mut room[..r]);
-    true
+    names(rt, &text[..n], &mut room[..r])?;
+    Ok(true)
 }

@@ -2,40 +2,42 @@
 #![tactic(auto)]
 
 use arguments::{files, numbers};
+use std::io;
+use std::rt::{Env, Files};
 
 // The places of what a job takes: argument 1 is the job itself.
 const FIRST: usize = 2;
 
 const SECOND: usize = 3;
 
-pub fn image() {
+pub fn image<R: Env + Files + Input + Print>(rt: &R) -> io::Result<()> {
     let mut text = files::text_buffer();
     let mut room = rooms::room_buffer();
-    let taken = files::take_file(FIRST, &mut text);
+    let taken = files::take_file(rt, FIRST, &mut text)?;
     if !taken.ok {
-        return;
+        return Ok(());
     }
-    let space = numbers::take_room(SECOND, rooms::ROOM);
+    let space = numbers::take_room(rt, SECOND, rooms::ROOM)?;
     if !space.ok {
-        return;
+        return Ok(());
     }
     let n = taken.value;
     let r = space.value;
-    rooms::read(&text[..n], &mut room[..r]);
+    rooms::read(rt, &text[..n], &mut room[..r])
 }
 
-pub fn names() {
+pub fn names<R: Env + Files + Input + Print>(rt: &R) -> io::Result<()> {
     let mut text = files::text_buffer();
     let mut room = rooms::room_buffer();
-    let taken = files::take_file(FIRST, &mut text);
+    let taken = files::take_file(rt, FIRST, &mut text)?;
     if !taken.ok {
-        return;
+        return Ok(());
     }
-    let space = numbers::take_room(SECOND, rooms::ROOM);
+    let space = numbers::take_room(rt, SECOND, rooms::ROOM)?;
     if !space.ok {
-        return;
+        return Ok(());
     }
     let n = taken.value;
     let r = space.value;
-    rooms::names(&text[..n], &mut room[..r]);
+    rooms::names(rt, &text[..n], &mut room[..r])
 }
