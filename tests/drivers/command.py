@@ -12,6 +12,7 @@ import itertools
 import json
 import os
 import pty
+import re
 import shutil
 import subprocess
 import sys
@@ -640,12 +641,14 @@ def try_output():
 
 STAND_IN = """#!/bin/sh
 if [ "$1" = version ]; then echo "$STAND_IN_VERSION"; exit; fi
-[ "$*" = "check desk" ] || exit 9
-echo "rt: base proved (unchanged since it was last proved)"
-if [ -n "$STAND_IN_FAILS" ]; then echo "rt: desk NOT PROVED (exit 1, 3 s)"; echo "rt: FAILED: desk"; exit 1; fi
-echo "fn desk::main: proved"
-echo "rt: desk proved (3 s)"
-mkdir -p target/bin && cp "$STAND_IN_DESK" target/bin/desk
+[ "$*" = run ] && [ "$(basename "$PWD")" = desk ] || exit 9
+echo "rt: chose --jobs 2 for desk" >&2
+if [ -n "$STAND_IN_FAILS" ]; then echo "fn desk::main: not proved" >&2; exit 1; fi
+echo "fn desk::main: proved" >&2
+echo "logic=proved functions=1" >&2
+mkdir -p out && cp "$STAND_IN_DESK" out/desk
+echo "rt: running out/desk; to give it other input, run that file yourself" >&2
+echo "unknown"
 """
 
 
@@ -657,10 +660,11 @@ class Checkout:
         self.tools = folder / "tools"
         for below in ("crates/base/src", "crates/desk/src", "tests", "tools"):
             (folder / below).mkdir(parents=True)
-        for file in ("wizogbare", "VERSION", "TOOLCHAIN", "tests/run"):
+        for file in ("wizogbare", "VERSION", "TOOLCHAIN", "tests/run", "tests/build"):
             shutil.copy(HERE / file, folder / file)
-        (folder / "crates.txt").write_text("base:\ndesk: base os io libc   # the program\n")
+        (folder / "crates.txt").write_text("base:\ndesk: base check   # the program\n")
         (folder / "crates/base/src/lib.rt").write_text("")
+        (folder / "crates/desk/src/main.rt").write_text("")
         (folder / "book").write_bytes(books.P1)
         (self.tools / "rt").write_text(STAND_IN)
         (self.tools / "rt").chmod(0o755)
@@ -680,17 +684,17 @@ def try_faults_of_building(checkout):
     fails("no rt", checkout.run(PATH="/nowhere"), "`rt` is not on the PATH")
     fails("another toolchain", checkout.run(STAND_IN_VERSION="kit-9 logic 00"), "--any-toolchain")
     ran = checkout.run(STAND_IN_FAILS="yes")
-    said = "the build failed (rt: FAILED: desk): target/log/wizogbare.log"
+    said = "the build failed (build: FAILED: desk): target/log/wizogbare.log"
     note("a failed build", (ran.status, ran.out) == (2, "") and said in ran.err, ran)
     log = (checkout.folder / "target/log/wizogbare.log").read_text()
-    note("its log", "desk NOT PROVED" in log, ran)
+    note("its log", "desk::main: not proved" in log, ran)
 
 
 def built(what, ran, said):
     """The answer is the example's, and standard error has this first line and one for the crate that was proved."""
     first, *more = ran.err.splitlines()
-    progress = ["wizogbare:   2 of 2: desk proved (3 s)"]
-    note(what, (ran.status, ran.out) == (0, LISTED) and said in first and more == progress, ran)
+    progress = len(more) == 1 and re.fullmatch(r"wizogbare:   2 of 2: desk proved \(\d+ s\)", more[0])
+    note(what, (ran.status, ran.out) == (0, LISTED) and said in first and progress, ran)
 
 
 def try_building(checkout):
@@ -731,7 +735,7 @@ def try_old_python():
 def main():
     for program in ("desk", "listing"):
         if not (HERE / "target/bin" / program).exists():
-            sys.exit(f"target/bin/{program} is not built: rt check desk listing")
+            sys.exit(f"target/bin/{program} is not built: tests/build desk listing")
     with tempfile.TemporaryDirectory() as name:
         folder = Path(name)
         folder.chmod(0o755)

@@ -9,18 +9,29 @@ import sys
 from pathlib import Path
 
 TOP = Path(__file__).resolve().parents[2]
-KIT = ("Prim.", "mathlib.Core.", "lib.")
-OWN = re.compile(r"Rattle·\w+(·specs\.specs|\.specs)\.(paper|declared)\.")
+KIT = ("Prim.", "mathlib.Core.", "Rattle.std.specs.")
+OWN = re.compile(r"Rattle\.(?P<crate>\w+)\.specs\.(paper|declared)\.")
+IMPORTS = re.compile(r"\s*(?:pub )?use (\S+)")
 DEFINES = re.compile(r"^(?P<indent> *)(?:(?:abbrev|unfoldable) pub (?P<name>[^\s:({]+)|pub (?:record|data) (?P<type>[^\s:({]+))")
 DECLARES = re.compile(r"^ *(?:(?:abbrev|unfoldable|pub|record|data) )*[^\s:({]+(?: [({][^)}]*[)}])* : ")
 FACES = ("book", "engine", "cleaner", "embed")
 ROW = re.compile(r"^\| *\d+ \| (?P<file>\S+) \| (?P<names>.*) \| *(?P<lines>\d+) \|$")
 
 
+def crates():
+    """The crates in the order of crates.txt."""
+    return [line.split(":")[0].split()[0] for line in (TOP / "crates.txt").read_text().splitlines() if ":" in line.partition("#")[0]]
+
+
+def is_believed(path):
+    """Whether an import is of the toolchain's own definitions, of types that the code declares, or of a file of some paper/ of ours."""
+    own = OWN.match(path)
+    return path.startswith(KIT) or own is not None and own["crate"] in crates()
+
+
 def papers():
     """The files of paper/ in the order to read them: crates as crates.txt has them, files as paper.antt declares them."""
-    for line in (TOP / "crates.txt").read_text().splitlines():
-        crate = line.split(":")[0]
+    for crate in crates():
         index = TOP / "crates" / crate / "specs" / "paper.antt"
         folder = index.with_suffix("")
         if not folder.is_dir():
@@ -33,16 +44,22 @@ def papers():
 
 
 def content(path):
-    """A file's lines that count, each with its number."""
+    """A file's lines that count, each with its number; an import that goes over several lines is one."""
+    begun = None
     for number, line in enumerate(path.read_text().splitlines(), 1):
-        if line.strip() and not line.lstrip().startswith("--"):
+        if not line.strip() or line.lstrip().startswith("--"):
+            continue
+        if begun is not None:
+            number, line = begun[0], f"{begun[1]} {line.strip()}"
+        begun = (number, line) if IMPORTS.match(line) and line.count("{") > line.count("}") else None
+        if begun is None:
             yield number, line
 
 
 def row(path):
     names, count = [], 0
     for _, line in content(path):
-        if re.match(r"use ", line):
+        if IMPORTS.match(line):
             continue
         count += 1
         defined = DEFINES.match(line)
@@ -56,9 +73,9 @@ def faults(path):
     """Whatever in a file of paper/ is no definition and no import of one."""
     inside = None
     for number, line in content(path):
-        imported = re.match(r"(?:pub )?use (\S+)", line)
+        imported = IMPORTS.match(line)
         if imported:
-            if not imported[1].startswith(KIT) and not OWN.match(imported[1]):
+            if not is_believed(imported[1]):
                 yield f"{path}:{number}: imports {imported[1]}, which is in no paper/"
             continue
         indent = len(line) - len(line.lstrip())
@@ -77,8 +94,8 @@ def faces():
     for crate in FACES:
         source = TOP / "crates" / crate / "src" / "lib.rt"
         for number, line in enumerate(source.read_text().splitlines(), 1):
-            cited = re.match(r"ghost use (Rattle·\S+)", line)
-            if cited and not OWN.match(cited[1]):
+            cited = re.match(r"\s*ghost use (\S+)", line)
+            if cited and not is_believed(cited[1]):
                 yield f"{source}:{number}: a promise cites {cited[1]}, which is in no paper/"
 
 

@@ -8,7 +8,8 @@ use Rattle.base.specs.paper.Bools.{choose}
 use Rattle.base.specs.Bools.{choose_true, choose_false}
 use Rattle.image.specs.paper.Book.{Book}
 use Rattle.image.specs.paper.Decode.{Decoded, accepted, refused, decode}
-use Rattle.image.specs.Accepted.{orderly, IsBook, book_in, book_in_lem}
+use Rattle.image.specs.Accepted.{IsBook, book_in, book_in_lem}
+use Rattle.image.proofs.Accepted.{orderly}
 use Rattle.sets.specs.paper.Kept.{zeros, longest}
 use Rattle.searching.specs.paper.Rules.{Outcome, run_from, search_end}
 use Rattle.searching.specs.paper.Seek.{root_with, Seeking, admitted, excluded, spent, sought}

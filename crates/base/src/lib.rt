@@ -1,3 +1,2 @@
 // Laws on lists, Booleans and tests that the floors above share. They stand in specs/; there is no code.
 #![tactic(auto)]
-

@@ -2,7 +2,5 @@
 pub mod paper
 pub mod Refusals
 pub mod Told
-pub mod Turns
 pub mod Sorting
 pub mod Looking
-pub mod CleaningLaws

@@ -2,7 +2,6 @@
 // as a pointer and then a length.
 #![tactic(auto)]
 
-
 mod codes;
 
 ghost use Rattle.std.specs.Prelude.{◌≡◌};

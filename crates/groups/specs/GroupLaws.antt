@@ -1,4 +1,4 @@
--- The book with a group's facts is within the limits and without loops, so that its image is accepted, as that book.
+-- The book with a group's facts is within the limits and without loops.
 -- Assumes nothing.
 use Rattle.std.specs.Prelude.{ℕ, zero, suc, ◌+◌, ◌≤◌, ◌≡◌, refl, Bool, true, false, not, ◌&&◌, ◌||◌, List, [], ◌∷◌, ◌++◌, map, leb, ltb, eqb, length}
 use Rattle.std.proofs.Common.{ap, ◌∙◌, arith, length-append, leb-true, ltb-true}
@@ -12,11 +12,9 @@ use Rattle.base.specs.Flat.{every_map, sum_append, sum_map, sum_none}
 use Rattle.image.specs.paper.Book.{Lit, Clause, Book, body_count}
 use Rattle.image.specs.paper.Faults.{limits}
 use Rattle.image.specs.paper.Loops.{pending, quiet, loop_free}
-use Rattle.image.specs.paper.Decode.{decode, accepted}
 use Rattle.image.specs.Finds.{Named, ClauseFine}
-use Rattle.image.specs.Written.{Within, decode_written}
-use Rattle.image.specs.Encode.{decode_encode, longest_image, longest_image_lem}
-use Rattle.groups.specs.paper.Group.{is_defined, fact, with_facts, group_image}
+use Rattle.image.specs.Written.{Within}
+use Rattle.groups.specs.paper.Group.{is_defined, fact, with_facts}
 
 -- "behind its clauses"
 pub facts_behind : (b : Book) (xs : List ℕ) → (with_facts b xs).clauses ≡ b.clauses ++ map fact xs
@@ -86,17 +84,3 @@ facts_pending cs xs (suc n) =
 pub facts_free : (b : Book) (xs : List ℕ) → loop_free (with_facts b xs) ≡ loop_free b
 unfolding with_facts loop_free quiet
 facts_free b xs = ap (λ (f : ℕ → Bool). all (λ (p : ℕ). not (f p)) (below b.atoms)) (facts_pending b.clauses xs b.atoms)
-
--- ---- accepted
-
-pub group_accepted : (b : Book) (xs : List ℕ) → Within limits b → loop_free b ≡ true → all (is_defined b) xs ≡ true
-    → length b.clauses + length xs ≤ limits.clauses → decode (group_image b xs) ≡ accepted (with_facts b xs)
-group_accepted b xs w free defined few = decode_encode (with_facts b xs) (facts_within b xs defined few w) (facts_free b xs ∙ free)
-
-pub group_length : (b : Book) (xs : List ℕ) → Within limits b → loop_free b ≡ true → all (is_defined b) xs ≡ true
-    → length b.clauses + length xs ≤ limits.clauses → length (group_image b xs) ≤ longest_image
-group_length b xs w free defined few = longest_image_lem (group_image b xs) (with_facts b xs) (group_accepted b xs w free defined few)
-
-pub group_of_image : (s : List ℕ) (b : Book) (xs : List ℕ) → decode s ≡ accepted b → all (is_defined b) xs ≡ true
-    → length b.clauses + length xs ≤ limits.clauses → decode (group_image b xs) ≡ accepted (with_facts b xs)
-group_of_image s b xs e = let w = decode_written s b e in group_accepted b xs w.within w.free

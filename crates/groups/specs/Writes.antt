@@ -2,21 +2,17 @@
 -- Assumes nothing.
 use Rattle.std.specs.Prelude.{ℕ, ◌+◌, ◌-◌, ◌*◌, ◌/◌, ◌%◌, ◌≤◌, ◌≡◌, true, List, [], ◌∷◌, ◌++◌, length, drop, set}
 use Rattle.std.proofs.Common.{subst, arith}
-use Rattle.std.proofs.Math.Seq.{slice}
 use Rattle.base.specs.paper.Lists.{all}
 use Rattle.image.specs.paper.Front.{version, version_at, length_at, atoms_at}
-use Rattle.image.specs.paper.Walk.{field_at, field_values}
+use Rattle.image.specs.paper.Walk.{field_values}
 use Rattle.image.specs.paper.Faults.{limits}
 use Rattle.image.specs.Laid.{laid}
 use Rattle.image.specs.Accepted.{IsBook, book_in}
-use Rattle.image.specs.Written.{decode_written}
-use Rattle.image.specs.Encode.{Bytes, longest_image}
+use Rattle.image.specs.Encode.{longest_image}
 use Rattle.image.specs.Shown.{clause_count_at, constraint_count_at}
-use Rattle.image.specs.Places.{shows, goal_before}
 use Rattle.groups.specs.paper.Group.{well_formed, observed, is_defined, group_image}
-use Rattle.groups.specs.GroupLaws.{group_length}
-use Rattle.groups.specs.Wrote.{WroteBytes, wrote_byte, wrote_field, wrote_more, wrote_front}
-use Rattle.groups.specs.Pieces.{front_bytes, fact_size, fact_length, fact_bytes, clauses_before, group_bytes, group_pieces}
+use Rattle.groups.specs.Wrote.{WroteBytes, wrote_byte, wrote_field, wrote_more}
+use Rattle.groups.specs.Pieces.{front_bytes, fact_size, fact_length, fact_bytes}
 
 -- the part from `from` to `to` is there, and there is room for it
 pub record Copyable (bytes : List ℕ) (from to : ℕ) (image : List ℕ) (at : ℕ) : Type 0 where
@@ -67,33 +63,3 @@ pub record Ordered (book image : List ℕ) (counted told facts : ℕ) : Type 0 w
   pub order : counted + 2 ≤ told
   pub within : told ≤ length book
   pub room : length book + fact_length * facts ≤ length image
-
-module _ {book group image : List ℕ} {counted told facts : ℕ} (w : Writable book group image) (f : Found book group counted told facts) where
-  fits : length (group_image (book_in book) (observed group)) ≤ length image
-  fits =
-      let d = decode_written book (book_in book) w.book in
-      omega (arith, group_length (book_in book) (observed group) d.within d.free w.known w.few, w.room)
-
-  pub ordered : Ordered book image counted told facts
-  ordered =
-      record {
-        front = omega (arith, goal_before book, f.clauses);
-        order = omega (arith, clauses_before book (book_in book) w.book, f.clauses, f.constraints);
-        within = omega (arith, (shows book w.book).fits, f.constraints);
-        room = omega (arith, fits, group_bytes book (book_in book) w.book (observed group), f.observations);
-      }
-
-  module _ (bytes : Bytes book) where
-    pub group_wrote : {m₁ m₂ m₃ m₄ m₅ m₆ : List ℕ} {n r₂ r₄ r₅ r₆ : ℕ} → n ≡ field_at book counted
-        → WroteBytes (front_bytes (length book + fact_length * facts - atoms_at)) image version_at m₁ atoms_at
-        → WroteBytes (slice atoms_at counted book) m₁ atoms_at m₂ r₂
-        → m₃ ≡ laid m₂ r₂ ((n + facts) ∷ [])
-        → WroteBytes (slice (counted + 2) told book) m₃ (r₂ + 2) m₄ r₄
-        → WroteBytes (fact_bytes (observed group)) m₄ r₄ m₅ r₅
-        → WroteBytes (slice told (length book) book) m₅ r₅ m₆ r₆
-        → WroteGroup book group image m₆ r₆
-    group_wrote {m₆ = m₆} {n = n} {r₆ = r₆} e front goal count clauses added constraints =
-        let written = wrote_more (wrote_more (wrote_more (wrote_more (wrote_more front goal) (wrote_field (n + facts) count)) clauses) added) constraints in
-        let same = group_pieces book (book_in book) w.book bytes (observed group) f.clauses f.constraints f.observations e in
-        let whole = subst (λ (s : List ℕ). WroteBytes s image version_at m₆ r₆) same written in
-        record { bytes = omega (arith, whole.end); image = wrote_front fits whole }

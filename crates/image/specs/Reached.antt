@@ -1,7 +1,7 @@
 -- For the place of refusal 9 (paper 02, A2): the test whether an atom depends on itself says what `Depends` says.
 -- Assumes nothing.
 use Prim.Native.Nat.{ℕ, zero, suc, ◌+◌, ◌-◌, ◌≤◌, ◌<◌}
-use Rattle.std.proofs.Common.{arith, sym, ap, ◌∙◌}
+use Rattle.std.proofs.Common.{arith, sym, ◌∙◌}
 use Rattle.std.specs.Prelude.{◌≡◌, Bool, false, ◌&&◌, ◌||◌, ◌⊎◌, ◌↔◌, List, [], ◌∷◌, length}
 use Rattle.std.proofs.Math.Path.{refl, subst}
 use Rattle.std.proofs.Math.Bool.{true}
@@ -11,7 +11,7 @@ use Rattle.std.proofs.Math.Dec.{eqb}
 use borrow.Author.Tests.{eqb-true, eqb-false, eq-eqb}
 use Rattle.base.specs.Bools.{decide, clash, both, both_left, both_right, either, either_left, either_right}
 use Rattle.base.specs.paper.Lists.{◌∈◌, Every, any}
-use Rattle.base.specs.Lists.{here, there, every_none, every_more, every_first, every_rest, any_some, some_any}
+use Rattle.base.specs.Lists.{here, there, every_none, every_more, any_some, some_any}
 use Rattle.image.specs.paper.Book.{Lit, Clause, Book}
 use Rattle.image.specs.paper.Loops.{Depends, direct, through, reached, on_loop}
 use Rattle.image.specs.LoopLaws.{Distinct, none, more, distinct_few, Closed}

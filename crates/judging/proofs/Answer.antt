@@ -14,7 +14,8 @@ use Rattle.image.specs.paper.Book.{Lit, Book}
 use Rattle.image.specs.Sound.{Known}
 use Rattle.image.specs.paper.Walk.{field_at}
 use Rattle.image.specs.paper.Decode.{Decoded, refused, decode}
-use Rattle.image.specs.Accepted.{orderly, book_in, IsBook, within}
+use Rattle.image.specs.Accepted.{book_in, IsBook, within}
+use Rattle.image.proofs.Accepted.{orderly}
 use Rattle.meaning.specs.paper.Meaning.{true_in, value}
 use Rattle.judging.specs.paper.Failing.{first_failing}
 use Rattle.judging.specs.paper.Judged.{first_false, first_broken, judged_book, judged_of, judged, Judges}

@@ -16,7 +16,8 @@ use Rattle.image.specs.paper.Walk.{field_at}
 use Rattle.image.specs.Spell.{Stands, of_lits, of_alternative, of_constraint}
 use Rattle.image.specs.StandsLaws.{stands_at, stands_left, stands_right, stands_value, stands_rest, stands_within}
 use Rattle.image.specs.Finds.{length_lits}
-use Rattle.image.specs.Accepted.{orderly, book_in, IsBook}
+use Rattle.image.specs.Accepted.{book_in, IsBook}
+use Rattle.image.proofs.Accepted.{orderly}
 use Rattle.image.specs.Shown.{constraint_count_at, constraint_place, skip, no_constraint}
 use Rattle.meaning.specs.paper.Meaning.{all_true, true_in, value, holds}
 use Rattle.judging.specs.paper.Failing.{first_failing}

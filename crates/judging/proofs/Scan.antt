@@ -17,12 +17,14 @@ use Rattle.base.specs.Lists.{here, there, every_first, every_rest}
 use Rattle.base.specs.paper.Members.{has}
 use Rattle.image.specs.paper.Book.{Lit, Clause}
 use Rattle.image.specs.paper.Walk.{field_at}
-use Rattle.image.specs.LoopLaws.{rank, free_ranks}
+use Rattle.image.specs.LoopLaws.{rank}
+use Rattle.image.proofs.LoopLaws.{free_ranks}
 use Rattle.image.specs.Spell.{Stands, of_lits, of_clause}
 use Rattle.image.specs.StandsLaws.{stands_at, stands_value, stands_rest, stands_within}
 use Rattle.image.specs.Finds.{length_lits}
 use Rattle.image.specs.Written.{decode_written}
-use Rattle.image.specs.Accepted.{closed, orderly, book_in, IsBook}
+use Rattle.image.specs.Accepted.{closed, book_in, IsBook}
+use Rattle.image.proofs.Accepted.{orderly}
 use Rattle.image.specs.Shown.{clause_count_at, clause_place, skip, no_clause}
 use Rattle.meaning.specs.paper.Meaning.{clauses_for, true_in, all_true, some_body, value}
 use Rattle.meaning.proofs.Model.{value_model}

@@ -13,7 +13,7 @@ use Rattle.sets.specs.SetLaws.{within_has, has_within}
 use Rattle.image.specs.paper.Book.{Lit, Constraint, Book}
 use Rattle.image.specs.paper.Decode.{Decoded, accepted, refused, decode}
 use Rattle.meaning.specs.paper.Meaning.{true_in, all_true, value, holds, explains, Members}
-use Rattle.image.specs.Accepted.{orderly}
+use Rattle.image.proofs.Accepted.{orderly}
 use Rattle.judging.specs.FailingLaws.{failing_first, first_failing_lem, failing_all, all_failing}
 use Rattle.meaning.specs.paper.Completion.{Answer}
 use Rattle.meaning.proofs.Entailed.{answer_explains}

@@ -6,7 +6,8 @@ use Rattle.std.proofs.Math.Path.{ap}
 use Rattle.base.specs.Bools.{choose_true, choose_false}
 use Rattle.image.specs.paper.Book.{Book}
 use Rattle.image.specs.paper.Decode.{Decoded, accepted, refused, decode}
-use Rattle.image.specs.Accepted.{orderly, IsBook, book_in, book_in_lem}
+use Rattle.image.specs.Accepted.{IsBook, book_in, book_in_lem}
+use Rattle.image.proofs.Accepted.{orderly}
 use Rattle.sets.specs.paper.Kept.{zeros, sort, longest}
 use Rattle.sets.specs.KeptLaws.{sort_length}
 use Rattle.searching.specs.paper.Rules.{root, Outcome, finished, used_up, no_room, run_from, sent, search_end}

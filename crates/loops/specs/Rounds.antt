@@ -14,7 +14,8 @@ use Rattle.base.specs.paper.Lists.{◌∈◌, Every}
 use Rattle.base.specs.Lists.{any_some, every_first, every_rest}
 use Rattle.image.specs.paper.Book.{Lit, Clause}
 use Rattle.image.specs.paper.Loops.{Depends, pending, quiet, loop_free}
-use Rattle.image.specs.LoopLaws.{pending_more, pending_from, pending_less, quiet_none, loopless_free}
+use Rattle.image.specs.LoopLaws.{quiet_none}
+use Rattle.image.proofs.LoopLaws.{pending_more, pending_from, pending_less, loopless_free}
 use Rattle.loops.specs.Records.{Known}
 use Rattle.loops.specs.Naming.{names_marked, unmarked, adding, added, adding_keeps, names_marked_lem}
 use Rattle.loops.specs.Order.{Looping, own, Late, over, next, late_free, descends, descends_free}

@@ -16,7 +16,8 @@ use Rattle.image.specs.Finds.{length_lits, lit_in_lem}
 use Rattle.image.specs.Written.{Within}
 use Rattle.image.specs.paper.Faults.{limits}
 use Rattle.image.specs.Shown.{goal_at, lits_at_lem, clause_count_at, Shown, shown}
-use Rattle.image.specs.Accepted.{within, orderly, book_in}
+use Rattle.image.specs.Accepted.{within, book_in}
+use Rattle.image.proofs.Accepted.{orderly}
 use Rattle.sets.specs.paper.Kept.{zeros, longest}
 use Rattle.searching.specs.paper.Rules.{want, keep, Node, root, on, gather, assumed, run_from}
 use Rattle.searching.specs.paper.Rules

@@ -7,7 +7,7 @@ use Rattle.image.specs.paper.Book.{Lit, Book}
 use Rattle.image.specs.paper.Decode.{lit_of}
 use Rattle.image.specs.Shown.{lits_at}
 use Rattle.searching.specs.paper.Rules.{Task, want, pick, keep, Node, on, assumed}
-use Rattle.searching.proofs.Bounds.{frames, Named}
+use Rattle.searching.specs.Bounds.{frames, Named}
 use Rattle.area.specs.Ground.{Listed, Chain, Records, Ground, pos, neg, Tabled}
 use Rattle.area.specs.Area as layout
 use Rattle.memory.specs.Places.{entry_at, frame_at, entry, entry_literal, frame_marks, frame_set, frame_agenda, frame_way}

@@ -8,7 +8,8 @@ use Rattle.image.specs.paper.Book.{Lit, Book}
 use Rattle.image.specs.paper.Decode.{lit_of}
 use Rattle.searching.specs.paper.Rules.{want, Node, children}
 use Rattle.searching.proofs.Results.{child_of}
-use Rattle.searching.proofs.Bounds.{frames, frames_fall, root_frames}
+use Rattle.searching.specs.Bounds.{frames}
+use Rattle.searching.proofs.Bounds.{frames_fall, root_frames}
 use Rattle.area.specs.Area as layout
 use Rattle.image.specs.paper.Faults.{limits}
 use Rattle.memory.specs.Machine.{node_of, Trail, none, marks}

@@ -12,7 +12,8 @@ use Rattle.image.specs.Sound.{Orderly}
 use Rattle.meaning.specs.paper.Meaning.{clauses_for}
 use Rattle.searching.specs.paper.Rules.{opposite, Task, want, pick, break, Node, on, results, after, children}
 use Rattle.searching.proofs.Results.{child_of}
-use Rattle.searching.proofs.Bounds.{held, frames_fall, child_named}
+use Rattle.searching.specs.Bounds.{held}
+use Rattle.searching.proofs.Bounds.{frames_fall, child_named}
 use Rattle.area.specs.Ground.{pos, neg}
 use Rattle.memory.specs.Machine.{node_of, Fine, by_ways}
 

@@ -13,7 +13,8 @@ use Rattle.base.specs.paper.Lists.{Every}
 use Rattle.base.specs.Lists.{every_none, every_more, every_first, every_rest}
 use Rattle.image.specs.paper.Book.{Clause, Book}
 use Rattle.image.specs.paper.Loops.{Depends, loop_free, on_loop, before_loop}
-use Rattle.image.specs.LoopLaws.{Closed, depends_head, free_loopless, loopless_free}
+use Rattle.image.specs.LoopLaws.{Closed, depends_head}
+use Rattle.image.proofs.LoopLaws.{free_loopless, loopless_free}
 use Rattle.image.specs.Reached.{on_loop_lem}
 use Rattle.placing.specs.paper.Places.{FirstOnLoop}
 

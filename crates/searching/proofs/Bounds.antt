@@ -19,12 +19,8 @@ use Rattle.searching.specs.paper.Rules.{opposite, opposites, Task, want, pick, b
 use Rattle.searching.specs.paper.Seek.{root_with}
 use Rattle.searching.proofs.Results.{∈_on, ∉_off, Result, gone, joins, picks, Child, child}
 use Rattle.searching.specs.paper.Tree.{weight, marked, potential}
+use Rattle.searching.specs.Bounds.{held, literals, choice, free, frames, Named}
 use Rattle.searching.proofs.TreeLaws.{unmarked, falls, opposites_length, wants_weight}
-
--- a step that must be held counts one: a literal joins, or one of several lists is picked
-unfoldable pub held : List Lit → Task → ℕ
-held s (want l) = choose (on s l) 0 1
-held s (pick ways) = 1
 
 -- x stands k steps below n, and h of these must be held
 pub data Down (b : Book) : Node → ℕ → ℕ → Node → Type 0 where
@@ -36,10 +32,6 @@ pub data Down (b : Book) : Node → ℕ → ℕ → Node → Type 0 where
 pub steps_bound : (b : Book) {n x : Node} {k h : ℕ} → Down b n k h x → k + potential b x ≤ potential b n
 steps_bound b stay = omega arith
 steps_bound b (step c d) = omega (arith, falls b c, steps_bound b d)
-
--- the literals of a constraint
-abbrev pub literals : Constraint → ℕ
-literals k = length k.conditions + sum length k.alternatives
 
 keep_weight : (k : Constraint) → weight (keep k) ≡ suc (literals k)
 keep_weight k = omega (arith, sum_append length (opposites k.conditions) k.alternatives, opposites_length k.conditions)
@@ -59,24 +51,6 @@ root_potential b =
       sum_sucs literals b.constraints,
       sum_sucs (λ (c : Clause). length c.body) b.clauses,
     )
-
--- a choice counts one
-abbrev pub choice : Task → ℕ
-choice (want l) = 0
-choice (pick ways) = 1
-
--- an atom that stands on no side counts one, and one for each of its clauses
-abbrev pub free : Book → List Lit → ℕ → ℕ
-free b s p = choose (marked s p) 0 (suc (length (clauses_for b p)))
-
--- the steps yet to come that must be held: the choices on the agenda, and what the free atoms can bring
-unfoldable pub frames : Book → Node → ℕ
-frames b n = sum choice n.agenda + sum (free b n.sheet) (below b.atoms)
-
--- the task names atoms of the book only
-abbrev pub Named : Book → Task → Type 0
-Named b (want l) = l.atom < b.atoms
-Named b (pick ways) = Every (Known b) ways
 
 choices_wanted : (ls : List Lit) → sum choice (map want ls) ≡ 0
 choices_wanted [] = refl

@@ -10,7 +10,7 @@ use Rattle.image.specs.paper.Faults.{wrong_atoms, wrong_abducibles, wrong_count,
 use Rattle.image.specs.paper.Loops.{pending, quiet, loop_free}
 use Rattle.base.specs.paper.Lists.{below}
 use Rattle.image.specs.paper.Decode.{literal, clause, alternative, alternatives, inside, constraint, counted, clauses_and_constraints, book, ends, whole, length_field, wrong_front, Decoded, accepted, refused, in_order, decode}
-use Rattle.image.specs.Accepted.{orderly}
+use Rattle.image.proofs.Accepted.{orderly}
 use Rattle.meaning.specs.paper.Meaning.{clauses_for}
 use Rattle.searching.specs.paper.Rules.{Outcome, finished, used_up, no_room, on, results, after, gather, noting, run, search_end}
 use Rattle.searching.specs.paper.Explanations.{Explanations}

@@ -14,9 +14,11 @@ use Rattle.image.specs.paper.Book.{Clause, Book}
 use Rattle.image.specs.paper.Faults.{limits}
 use Rattle.image.specs.paper.Loops.{Depends, loop_free}
 use Rattle.image.specs.paper.Decode.{Decoded, accepted, refused, decode}
-use Rattle.image.specs.LoopLaws.{Closed, loopless_free}
+use Rattle.image.specs.LoopLaws.{Closed}
+use Rattle.image.proofs.LoopLaws.{loopless_free}
 use Rattle.image.specs.Encode.{longest_image, longest_image_lem}
-use Rattle.image.specs.Accepted.{within, loopless}
+use Rattle.image.specs.Accepted.{within}
+use Rattle.image.proofs.Accepted.{loopless}
 use Rattle.spelling.specs.paper.Document.{Atom, Literal, Statement, clause, constraint, Document}
 use Rattle.spelling.specs.paper.Said.{atoms_in, mentions_in, mentions, numbered, number_of, lit_in, clauses_in, clashing, book_of}
 use Rattle.spelling.specs.paper.Answer.{Says, image_of, Clear, Ends, malformed, clashes, turned, short, whole, Writes}

@@ -24,8 +24,9 @@ use Rattle.grammar.specs.Places.{goal_place, place_of}
 use Rattle.grammar.proofs.Goal.{goal_placed}
 use Rattle.writer.specs.Fields.{image_by}
 use Rattle.writer.specs.Due.{Statements}
-use Rattle.writer.specs.OfDocument.{image_by_lem}
-use Rattle.writer.specs.Writable.{codes_due, image_room, image_fits}
+use Rattle.writer.proofs.OfDocument.{image_by_lem}
+use Rattle.writer.specs.Writable.{codes_due, image_room}
+use Rattle.writer.proofs.Writable.{image_fits}
 use Rattle.text.specs.Given.{Numbered}
 use Rattle.text.specs.Made.{Made, Lent, made_refused, not_placed, placed, clash_ends, no_clash, turned_ends, refused_some, accepted_good}
 

@@ -7,7 +7,7 @@ use Rattle.base.specs.Parts.{length_lay, take_lay}
 use Rattle.sets.specs.paper.Kept.{insert}
 use Rattle.kept.specs.Agreed.{Overlaid}
 use Rattle.image.specs.paper.Book.{Lit, Book}
-use Rattle.image.specs.Accepted.{orderly}
+use Rattle.image.proofs.Accepted.{orderly}
 use Rattle.searching.specs.paper.Rules.{Task, pick, Node, assumed, children}
 use Rattle.area.specs.Ground.{Chain}
 use Rattle.area.specs.Area as layout

@@ -8,7 +8,8 @@ use Rattle.base.specs.Lists.{every_first}
 use Rattle.image.specs.paper.Book.{Lit, Clause, Book}
 use Rattle.image.specs.Sound.{Orderly}
 use Rattle.image.specs.paper.Decode.{lit_of}
-use Rattle.image.specs.Accepted.{within, orderly}
+use Rattle.image.specs.Accepted.{within}
+use Rattle.image.proofs.Accepted.{orderly}
 use Rattle.meaning.specs.paper.Meaning.{clauses_for}
 use Rattle.searching.specs.paper.Rules.{opposite, Task, want, break, Node, on, assumed, children}
 use Rattle.area.specs.Ground.{Chain, Records, Denied, undefined, broken, Ground, Tabled}

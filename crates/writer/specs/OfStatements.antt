@@ -3,22 +3,22 @@
 use Prim.Native.Nat.{ℕ, ◌+◌}
 use native.Mathlib.Omega.{arith}
 use Rattle.std.specs.Prelude.{◌≡◌, true, false, eqb}
-use Rattle.std.proofs.Math.Path.{refl, sym, ap, ap₂}
+use Rattle.std.proofs.Math.Path.{refl, sym, ap}
 use Rattle.std.proofs.Common.{◌∙◌}
 use mathlib.Core.List.{List, [], ◌∷◌, ◌++◌, map, append_assoc, append-nil, map-append}
-use Rattle.std.proofs.Math.ListN.{length, length-append, length-map}
+use Rattle.std.proofs.Math.ListN.{length, length-append}
 use Rattle.base.specs.Bools.{choose_true, choose_false}
 use Rattle.base.specs.paper.Lists.{Every, flat}
 use Rattle.base.specs.Lists.{every_none, every_more, every_first, every_rest, every_both}
 use Rattle.base.specs.Flat.{flat_append, every_map}
-use Rattle.image.specs.paper.Spell.{of_lits, of_alternative, of_record, of_clause, of_constraint}
+use Rattle.image.specs.paper.Spell.{of_lits, of_record, of_clause}
 use Rattle.spelling.specs.paper.Words.{Word, same, small, in_name, semicolon, dot, arrow, false_word, is_name}
 use Rattle.spelling.specs.paper.Document.{Literal, Statement, clause, constraint, of_atom, of_literals, of_side, of_ways, of_body, of_statement, NonEmpty, LiteralsFine, WayFine, StatementFine}
 use Rattle.spelling.specs.paper.Said.{number_of, lit_in, clauses_in, constraints_in}
 use Rattle.spelling.specs.Codes.{semicolon_code, dot_code, arrow_code, code_of, codes_of}
-use Rattle.writer.specs.Fields.{Numbers, sign_after, names_from, Part, part, longer, is_end, parts_of, lits_of, way_of, ways_of, inside_of, starts, records_of, count_of}
+use Rattle.writer.specs.Fields.{Numbers, Part, part, longer, is_end, parts_of, inside_of, starts, records_of, count_of}
 use Rattle.writer.specs.EachWord.{Named, each_atom, each_literals, each_side, each_body}
-use Rattle.writer.specs.OfLiterals.{Opens, open_name, open_inner, Good, GoodLiterals, lits_literals, lits_side, rule_clause}
+use Rattle.writer.specs.OfLiterals.{Opens, open_name, open_inner, Good, GoodLiterals, rule_clause}
 
 -- ---- the parts
 
@@ -95,30 +95,10 @@ module _ (names : List Word) where
 -- ---- the records
 
 module _ (names final : List Word) (number : Numbers) where
-  abbrev GoodWay : List Literal → Type 0
-  GoodWay ls = NonEmpty ls × GoodLiterals names final number ls
-
   -- a statement's names are good
   abbrev pub GoodStatement : Statement → Type 0
   GoodStatement (clause a body) = Good names final number a × GoodLiterals names final number body
   GoodStatement (constraint c to) = GoodLiterals names final number c × Every (λ (ls : List Literal). NonEmpty ls × GoodLiterals names final number ls) to
-
-  way_fields : (ls : List Literal) → GoodWay ls → way_of (lits_of number (codes names (of_literals ls))) ≡ of_alternative (map (lit_in final) ls)
-  way_fields [] g = absurd g.0
-  way_fields (l ∷ ls) g =
-      ap way_of (lits_literals names final number (l ∷ ls) g.1)
-      ∙ ap (λ (n : ℕ). n ∷ of_lits (map (lit_in final) (l ∷ ls))) (length-map (map (lit_in final) (l ∷ ls)) _)
-
-  ways_way : (ls : List Literal) (to : List (List Literal)) (ps : List Part) → GoodWay ls → Every GoodWay to
-      → ways_of number (way_parts names ls to ++ ps) ≡ flat of_alternative (map (map (lit_in final)) (ls ∷ to))
-  unfolding ways_of
-  ways_way ls [] ps g h = ap (λ (z : List ℕ). z ++ []) (way_fields ls g)
-  ways_way ls (m ∷ to) ps g h = ap₂ (λ (y z : List ℕ). y ++ z) (way_fields ls g) (ways_way m to ps (every_first h) (every_rest h))
-
-  ways_ways : (to : List (List Literal)) (ps : List Part) → Every GoodWay to → ways_of number (ways_parts names to ++ ps) ≡ flat of_alternative (map (map (lit_in final)) to)
-  unfolding ways_of names_from sign_after code_of is_name same small in_name
-  ways_ways [] ps h = refl
-  ways_ways (ls ∷ to) ps h = ways_way ls to ps (every_first h) (every_rest h)
 
   module _ (kind : ℕ) where
     -- no record starts among the alternatives
@@ -128,7 +108,7 @@ module _ (names final : List Word) (number : Numbers) where
     pass_way last ls [] ps e = (rw e, rw e (omega arith))
     pass_way last ls (m ∷ to) ps e = let i = pass_way semicolon_code m to ps refl in (rw e i.0, rw e (omega (arith, i.1)))
 
-    pass_ways : (last : ℕ) (to : List (List Literal)) (ps : List Part) → eqb last dot_code ≡ false
+    pub pass_ways : (last : ℕ) (to : List (List Literal)) (ps : List Part) → eqb last dot_code ≡ false
         → (records_of number kind last (ways_parts names to ++ ps) ≡ records_of number kind dot_code ps) × (count_of kind last (ways_parts names to ++ ps) ≡ count_of kind dot_code ps)
     unfolding records_of count_of starts
     pass_ways last [] ps e = (rw e, rw e (omega arith))
@@ -149,17 +129,6 @@ module _ (names final : List Word) (number : Numbers) where
     unfolding count_of starts
     clause_count_lem (clause a body) = refl
     clause_count_lem (constraint c to) = omega (arith, (pass_ways dot_code arrow_code to ps refl).1)
-
-    constraint_records_lem : (s : Statement) → GoodStatement s
-        → records_of number arrow_code dot_code (statement_parts names s ++ ps) ≡ flat of_constraint (constraints_in final s) ++ records_of number arrow_code dot_code ps
-    unfolding records_of inside_of starts
-    constraint_records_lem (clause a body) g = refl
-    constraint_records_lem (constraint c to) g =
-        let count : length (lits_of number (codes names (of_side c))) ≡ length (map (lit_in final) c) = ap length (lits_side names final number c g.0) ∙ length-map (map (lit_in final) c) _ in
-        let fields : List ℕ = of_alternative (map (lit_in final) c) ++ flat of_alternative (map (map (lit_in final)) to) in
-        let inside = ap₂ (λ (x : ℕ) (fs : List ℕ). x ∷ fs) count (lits_side names final number c g.0) in
-        ap₂ (λ (y z : List ℕ). of_record y ++ z) (ap₂ (λ (y z : List ℕ). y ++ z) inside (ways_ways to ps g.1)) (pass_ways arrow_code arrow_code to ps refl).0
-        ∙ ap (λ (fs : List ℕ). fs ++ records_of number arrow_code dot_code ps) (sym (append-nil (of_record fields)))
 
     constraint_count_lem : (s : Statement) → count_of arrow_code dot_code (statement_parts names s ++ ps) ≡ length (constraints_in final s) + count_of arrow_code dot_code ps
     unfolding count_of starts
@@ -185,15 +154,6 @@ module _ (names final : List Word) (number : Numbers) where
         clauses_count ss,
         length-append (clauses_in final s) (flat (clauses_in final) ss),
       )
-
-  pub constraints_records : (ss : List Statement) → Every GoodStatement ss
-      → records_of number arrow_code dot_code (flat (statement_parts names) ss) ≡ flat of_constraint (flat (constraints_in final) ss)
-  unfolding records_of
-  constraints_records [] g = refl
-  constraints_records (s ∷ ss) g =
-      constraint_records_lem (flat (statement_parts names) ss) s (every_first g)
-      ∙ ap (λ (fs : List ℕ). flat of_constraint (constraints_in final s) ++ fs) (constraints_records ss (every_rest g))
-      ∙ sym (flat_append of_constraint (constraints_in final s) (flat (constraints_in final) ss))
 
   pub constraints_count : (ss : List Statement) → count_of arrow_code dot_code (flat (statement_parts names) ss) ≡ length (flat (constraints_in final) ss)
   unfolding count_of

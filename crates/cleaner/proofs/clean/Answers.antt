@@ -6,8 +6,8 @@ use lib.ListN.{length}
 use lib.Seq.{length-take-le}
 use Rattle.image.specs.paper.Book.{Book}
 use Rattle.image.specs.paper.Decode.{decode, accepted}
-use Rattle.cleaner.specs.Refusals.{Passed, passed}
-use Rattle.cleaner.specs.CleaningLaws.{cleans_turned, group_writable, group_short, written_ripe, cleans_written}
+use Rattle.cleaner.proofs.RefusalLaws.{Passed, passed}
+use Rattle.cleaner.proofs.CleaningLaws.{cleans_turned, group_writable, group_short, written_ripe, cleans_written}
 use Rattle.cleaner.proofs.clean.Lts as lts
 use Rattle.cleaner.proofs.clean.Tie as tie
 use Rattle.cleaner.proofs.clean.Reads as reads

@@ -102,7 +102,7 @@ passed c =
     let cs : List Clause = clauses_at e.args.image.now e.args.first e.args.many in
     let t : ℕ → Bool = depends_on_itself cs e.args.atoms in
     elim c.if-not-is_marked.branch [
-      then-not-is_marked+else-depends_on_itself w ↦
+      | then-not-is_marked+else-depends_on_itself w ↦
           let h : t m.field_at-head.result ≡ false = sym w.depends_on_itself.ensures ∙ w.if-depends_on_itself.false in
           (h, subst (Free cs e.args.atoms) (sym w.free-is) (free_more t (marked l.free) _ _ w.with_mark-free.ensures h l.invariant.2))
       | else-not-is_marked w ↦

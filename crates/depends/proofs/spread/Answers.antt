@@ -88,10 +88,10 @@ passed c q =
     let f : ℕ → Bool = marked l.all in
     let d : Clause = clause_at e.args.image.now l.at in
     elim c.if-head-atom.branch [
-      then-head-atom w ↦
+      | then-head-atom w ↦
           let leads : (d.head ≡ e.args.atom) ⊎ (f d.head ≡ true) =
           elim w.then-head-atom.branch [
-            then-head-atom-via-then-head-atom h ↦ inl (headed c.before ∙ h.if-head-atom.true)
+            | then-head-atom-via-then-head-atom h ↦ inl (headed c.before ∙ h.if-head-atom.true)
             | then-head-atom-via-else-head-atom+then-is_marked h ↦ inr (ap f (headed c.before) ∙ sym h.is_marked.ensures ∙ h.if-is_marked.true)
           ] in
           ap (λ (r : Marks). marked r q) w.all-is

@@ -5,7 +5,8 @@ use native.Mathlib.Omega.{arith}
 use Rattle.image.specs.Shown.{shown, shown_front}
 use Rattle.image.specs.Accepted.{book_in}
 use Rattle.lister.specs.PromiseLaws.{may_search}
-use Rattle.engine.specs.VerdictLaws.{verdict_broken_lem, verdict_early, verdict_unnamed, by_listing_lem, lists_count, lists_nodes, lists_cleared, verdict_refused_lem, verdict_at_fault, verdict_listed}
+use Rattle.engine.specs.VerdictLaws.{verdict_broken_lem, verdict_early, verdict_unnamed, by_listing_lem, lists_count, lists_nodes, lists_cleared, verdict_refused_lem, verdict_at_fault}
+use Rattle.engine.proofs.VerdictLaws.{verdict_listed}
 use Rattle.engine.proofs.verdict_on.Goals as goal
 
 pub abducibles-requires : goal.abducibles-requires

@@ -140,7 +140,7 @@ passed c =
     → descends (clauses_at s (behind_record s l.at) (n - 1)) (marked c.if-inside-end.heads) ≡ descends (clauses_at s (behind_record s l.at) (n - 1)) (marked r) =
     λ r i. ap (λ (x : Marks). descends (clauses_at s (behind_record s l.at) (n - 1)) (marked x)) i in
     elim c.if-inside-end.branch [
-      then-inside-end+else-names_marked w ↦
+      | then-inside-end+else-names_marked w ↦
           let o : After-names_marked = record {
             before = record {
               before = record {

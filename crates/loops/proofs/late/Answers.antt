@@ -145,7 +145,7 @@ passed c q =
     ≡ late (clauses_at s (behind_record s l.at) (n - 1)) (marked x) (marked y) q =
     λ x y i j. ap₂ (λ (f g : Marks). late (clauses_at s (behind_record s l.at) (n - 1)) (marked f) (marked g) q) i j in
     elim c.if-inside-end.branch [
-      then-inside-end+then-is_marked w ↦
+      | then-inside-end+then-is_marked w ↦
           let o : After-is_marked = record {
             before = record {
               before = record {

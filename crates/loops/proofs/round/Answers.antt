@@ -122,7 +122,7 @@ passed c q =
     let tested : (t : Bool) → b.names_marked.result ≡ t → names_marked (marked l.all) (clause_at s l.at) ≡ t =
     λ t is. ap (names_marked (marked l.all)) (sym (clause_part _ _ _ (lead m.before.before.before.before) (ends m.before.before.before))) ∙ sym b.names_marked.ensures ∙ is in
     elim c.if-names_marked.branch [
-      then-names_marked+then-is_marked w ↦
+      | then-names_marked+then-is_marked w ↦
           let head = headed (record { before = record { before = c.before; if-names_marked = w.if-names_marked }; field_at-head = w.field_at-head }) in
           same _ _ w.all-is w.left-is
           ∙ round_held s l.at n some held (marked l.all) (marked l.left) (tested true w.if-names_marked.true) (ap held head ∙ sym w.is_marked.ensures ∙ w.if-is_marked.true)

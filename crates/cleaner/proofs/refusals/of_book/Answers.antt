@@ -6,7 +6,8 @@ use lib.Dec.{ltb}
 use borrow.Author.Tests.{lt-ltb}
 use Rattle.image.specs.paper.Walk.{Finding, unless, and_then}
 use Rattle.image.specs.Accepted.{book_in}
-use Rattle.cleaner.specs.Refusals.{number_of, of_group, of_numbers, first_number, group_fine}
+use Rattle.cleaner.specs.Refusals.{number_of, of_group, of_numbers}
+use Rattle.cleaner.proofs.RefusalLaws.{first_number, group_fine}
 use Rattle.cleaner.proofs.refusals.of_book.Lts as lts
 use Rattle.cleaner.proofs.refusals.of_book.Tie as tie
 use Rattle.cleaner.proofs.refusals.of_book.Reads as reads

@@ -1,5 +1,5 @@
 -- `cleaner::sorting::by_second` meets its contract: the ends of the second search. Assumes nothing.
-use Rattle.cleaner.specs.Sorting.{hypothesis_small, by_admitted, by_excluded, by_broken, by_refused}
+use Rattle.cleaner.proofs.SortingLaws.{hypothesis_small, by_admitted, by_excluded, by_broken, by_refused}
 use Rattle.cleaner.proofs.sorting.by_second.Goals as goal
 
 pub with_possible-requires : goal.with_possible-requires

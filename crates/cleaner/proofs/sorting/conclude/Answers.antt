@@ -1,5 +1,5 @@
 -- `cleaner::sorting::conclude` meets its contract: deleted, held, or refused at a spent second search. Assumes nothing.
-use Rattle.cleaner.specs.Sorting.{concluded_deleted, concluded_held, concluded_spent}
+use Rattle.cleaner.proofs.SortingLaws.{concluded_deleted, concluded_held, concluded_spent}
 use Rattle.cleaner.proofs.sorting.conclude.Goals as goal
 
 pub returns-then-sorted-hypotheses : goal.returns-then-sorted-hypotheses

@@ -1,7 +1,7 @@
 -- `cleaner::sorting::look` meets its contract: a listing that is refused refuses the group, and a finished one is concluded from.
 -- Assumes nothing.
 use Rattle.engine.specs.VerdictLaws.{lists_count}
-use Rattle.cleaner.specs.Looking.{looked_broken, looked_refused, looked_listed, ready_after}
+use Rattle.cleaner.proofs.LookingLaws.{looked_broken, looked_refused, looked_listed, ready_after}
 use Rattle.cleaner.proofs.sorting.look.Goals as goal
 
 pub tell-listed-requires : goal.tell-listed-requires

@@ -4,7 +4,9 @@ use mathlib.Core.Path.{refl, sym, ap, subst, ◌∙◌}
 use native.Mathlib.Omega.{arith}
 use lib.ListN.{length}
 use Rattle.cleaner.specs.declared.sorting.Sorting.TheVariants.{Whole}
-use Rattle.cleaner.specs.Sorting.{Ready, All, Coming, coming_start, coming_over, came_whole, came_spent}
+use Rattle.cleaner.specs.Sorting.{Ready, All}
+use Rattle.cleaner.specs.Sorting.{Coming}
+use Rattle.cleaner.proofs.SortingLaws.{coming_start, coming_over, came_whole, came_spent}
 use Rattle.cleaner.proofs.sorting.sort_all.Goals as goal
 
 pub loop-h-init : goal.loop-h-init

@@ -1,6 +1,6 @@
 -- `cleaner::sorting::sort_next` meets its contract. Assumes nothing.
 use mathlib.Core.Path.{sym, ◌∙◌}
-use Rattle.cleaner.specs.Sorting.{ready_one, next_skip, next_one}
+use Rattle.cleaner.proofs.SortingLaws.{ready_one, next_skip, next_one}
 use Rattle.cleaner.proofs.sorting.sort_next.Goals as goal
 
 pub returns-then-not-is_in : goal.returns-then-not-is_in

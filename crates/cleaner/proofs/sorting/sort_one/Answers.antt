@@ -2,7 +2,7 @@
 use mathlib.Core.Path.{◌≡◌, sym, ◌∙◌}
 use mathlib.Core.Bool.{false}
 use Rattle.base.specs.paper.Members.{has}
-use Rattle.cleaner.specs.Sorting.{hypothesis_small, one_unexplained, one_needed, one_possible, one_second}
+use Rattle.cleaner.proofs.SortingLaws.{hypothesis_small, one_unexplained, one_needed, one_possible, one_second}
 use Rattle.cleaner.proofs.sorting.sort_one.Lts as lts
 use Rattle.cleaner.proofs.sorting.sort_one.Tie as tie
 use Rattle.cleaner.proofs.sorting.sort_one.Reads as reads

@@ -2,7 +2,8 @@
 use mathlib.Core.Path.{ap}
 use native.Mathlib.Omega.{arith}
 use Rattle.admitting.specs.AdmitLaws.{nodes_in}
-use Rattle.engine.specs.VerdictLaws.{seconded_admitted, seconded_excluded, seconded_spent, seconded_broken, more_nodes}
+use Rattle.engine.specs.VerdictLaws.{seconded_excluded, seconded_broken, more_nodes}
+use Rattle.engine.proofs.VerdictLaws.{seconded_admitted, seconded_spent}
 use Rattle.engine.proofs.concluding.by_second.Goals as goal
 
 pub seek_book-requires : goal.seek_book-requires

@@ -1,6 +1,7 @@
 -- `engine::concluding::conclude` meets its contract: settled by the list, or by the second search. Assumes nothing.
 use mathlib.Core.Path.{refl}
-use Rattle.engine.specs.VerdictLaws.{hypothesis_small, concluded_settled, concluded_open}
+use Rattle.engine.specs.VerdictLaws.{hypothesis_small}
+use Rattle.engine.proofs.VerdictLaws.{concluded_settled, concluded_open}
 use Rattle.engine.specs.declared.deciding.Settled.TheVariants as settled
 use Rattle.engine.proofs.concluding.conclude.Goals as goal
 

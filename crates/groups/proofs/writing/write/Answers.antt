@@ -9,7 +9,8 @@ use Rattle.image.specs.Shown.{shown_front}
 use Rattle.groups.specs.paper.Group.{observed}
 use Rattle.groups.specs.Wrote.{Reached, reached_on, wrote_field, wrote_length}
 use Rattle.groups.specs.Pieces.{fact_length, length_fact_bytes}
-use Rattle.groups.specs.Writes.{Found, Ordered, ordered, group_wrote}
+use Rattle.groups.specs.Writes.{Found, Ordered}
+use Rattle.groups.proofs.Writes.{ordered, group_wrote}
 use Rattle.groups.proofs.writing.write.Lts as lts
 use Rattle.groups.proofs.writing.write.Tie as tie
 use Rattle.groups.proofs.writing.write.Reads as reads

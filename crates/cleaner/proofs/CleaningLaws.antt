@@ -16,13 +16,15 @@ use Rattle.image.specs.Encode.{longest_image, longest_image_lem}
 use Rattle.admitting.specs.paper.Promise.{InSome}
 use Rattle.engine.specs.paper.Verdict.{Explainable}
 use Rattle.groups.specs.paper.Group.{observed, is_defined, with_facts, group_image}
-use Rattle.groups.specs.GroupLaws.{group_of_image}
+use Rattle.groups.proofs.GroupLaws.{group_of_image}
 use Rattle.groups.specs.Writes.{Writable, WroteGroup}
 use Rattle.cleaner.specs.declared.Cleaning.{Cleaning}
 use Rattle.cleaner.specs.declared.Cleaning.TheVariants.{Deleted, Refused}
 use Rattle.cleaner.specs.paper.Cleaning.{Ending, turned, ending_by, ending_of, ending, answer_of, image_of, list_of, area_of, Means, Cleans}
-use Rattle.cleaner.specs.Refusals.{refusal_number, Passed, turned_by}
-use Rattle.cleaner.specs.Looking.{Ripe, Looked, ending_means}
+use Rattle.cleaner.specs.Refusals.{refusal_number}
+use Rattle.cleaner.proofs.RefusalLaws.{Passed, turned_by}
+use Rattle.cleaner.specs.Looking.{Ripe, Looked}
+use Rattle.cleaner.proofs.LookingLaws.{ending_means}
 
 -- two results that meet the promise are equal
 pub cleans_unique : (book group : List ℕ) (hypotheses budget : ℕ) (list area : List ℕ) (r q : Cleaning) (list₁ area₁ list₂ area₂ : List ℕ)

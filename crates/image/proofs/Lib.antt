@@ -1,0 +1,2 @@
+pub mod LoopLaws
+pub mod Accepted

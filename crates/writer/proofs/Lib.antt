@@ -1,0 +1,3 @@
+pub mod OfStatements
+pub mod OfDocument
+pub mod Writable
