@@ -17,7 +17,7 @@
 //                                                               written N bytes HEX rest untouched | rest other;
 //                                                               refused R room untouched | room other (crate rooms)
 //   7 clean   image, group record (length in two bytes, at most 1,000; bytes), hypotheses (eight bytes), budget, room, work length
-//                                                               deleted | held and each verdict, as ` 0:needed 3:ruled_out` |
+//                                                               deleted | held and each verdict, as ` 0:needed 3:ruled-out` |
 //                                                               refused R, then as for 3 (crate verdicts)
 //  12 names   as for 6                                          as for 6
 //  13 admits  image, hypothesis (four), budget (four), work length (four)
