@@ -70,14 +70,16 @@ fn overlong<R: Print>(rt: &R, place: usize) -> io::Result<()> {
     output::numbered(rt, b"overlong ", place as u64)
 }
 
-// The file's bytes, put at the front of the buffer, and how many they are.
+// The file's bytes, put at the front of the buffer, and how many they are. Where a line cannot be written, the answer is that error, here and below,
+// and the buffer keeps its size.
 fn filled<R: Print, F: Read>(
     rt: &R,
     file: &mut F,
     place: usize,
     bytes: &mut [u8],
 ) -> io::Result<Length>
-    ensures { IfOk result (λ taken. taken.value ≤ length bytes.old) }
+    ensures taken { IfOk result (λ taken. taken.value ≤ length bytes.old) }
+    ensures size { length bytes.new ≡ length bytes.old }
 {
     match input::take_all(file, bytes) {
         Ok(n) => Ok(Length { ok: true, value: n }),
@@ -94,7 +96,8 @@ pub fn take_file<R: Env + Files + Input + Print>(
     place: usize,
     bytes: &mut [u8],
 ) -> io::Result<Length>
-    ensures { IfOk result (λ taken. taken.value ≤ length bytes.old) }
+    ensures taken { IfOk result (λ taken. taken.value ≤ length bytes.old) }
+    ensures size { length bytes.new ≡ length bytes.old }
 {
     let mut path = [0u8; PATH];
     let n = argument(rt, place, &mut path);
@@ -116,7 +119,8 @@ pub fn take_whole<R: Env + Files + Input + Print>(
     place: usize,
     bytes: &mut [u8],
 ) -> io::Result<Length>
-    ensures { IfOk result (λ taken. taken.value ≤ length bytes.old) }
+    ensures taken { IfOk result (λ taken. taken.value ≤ length bytes.old) }
+    ensures size { length bytes.new ≡ length bytes.old }
 {
     let room = bytes.len();
     let taken = take_file(rt, place, bytes)?;

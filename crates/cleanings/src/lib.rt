@@ -139,7 +139,8 @@ fn take_hypotheses<R: Env + Print>(rt: &R) -> io::Result<Number> {
 
 // The file of groups. Standard input that has given the book gives nothing more.
 fn take_groups<R: Env + Files + Input + Print>(rt: &R, groups: &mut [u8]) -> io::Result<Length>
-    ensures { IfOk result (λ found. found.value ≤ length groups.old) }
+    ensures found { IfOk result (λ found. found.value ≤ length groups.old) }
+    ensures size { length groups.new ≡ length groups.old }
 {
     if files::is_input(rt, BOOK) && files::is_input(rt, GROUPS) {
         files::unread(rt, GROUPS)?;

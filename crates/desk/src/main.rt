@@ -15,11 +15,12 @@
 //                                           standard input, each a count of two bytes and its sets of eight, big-endian
 //   image TEXT ROOM                         written N bytes, the bytes in hex, rest untouched | refused R room untouched (crate rooms)
 //   names TEXT ROOM                         as for image
-//   clean FILE GROUPS H...                  group G deleted | group G held and each verdict, as ` 0:needed 3:ruled_out` |
+//   clean FILE GROUPS H...                  group G deleted | group G held and each verdict, as ` 0:needed 3:ruled-out` |
 //                                           group G held refused R; G is ? where the record is malformed
 //
 // Where there is no answer: `unknown` for another job, `unlisted` where standard input does not have the two lists, and
-// `unfit P`, `unopened P`, `unread P` and `overlong P` for argument P (crate arguments).
+// `unfit P`, `unopened P`, `unread P` and `overlong P` for argument P (crate arguments). A line that cannot be written ends the program
+// with that error.
 //
 // A job is found by its name here; the first six are in crate jobs, then two in crate texts, and the last in crate cleanings.
 #![tactic(auto)]

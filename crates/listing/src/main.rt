@@ -1,5 +1,6 @@
 // The printing program of paper 01, 9: lists the smallest explanations of the book whose image stands on standard input. It takes 8,752
-// bytes of that at most, one more than the longest image has.
+// bytes of that at most, one more than the longest image has. Input that cannot be read and a line that cannot be written end it with that
+// error.
 #![tactic(auto)]
 
 ghost use Rattle.std.specs.Prelude.{◌≡◌, length};

@@ -1,7 +1,8 @@
 // A test driver over the engine. It reads cases from standard input until that ends, and writes a line for each. A case is
 // an operation byte and what that operation takes; all numbers are big-endian, and an image is its length in four bytes and
 // then its bytes, at most 16,384. Before each call every list entry is 7 and every work number 9 (input). Anything malformed ends the run with the line
-// `bad case`. Behind refusals 1 to 9 of an image ` at P` says where it is at fault, but for 7.
+// `bad case`; input that cannot be read counts as ended. Behind refusals 1 to 9 of an image ` at P` says where it is at fault, but for 7.
+// A line that cannot be written ends the run with that error.
 //
 //   1 read    image                                             accepted | refused R
 //   2 judge   image, set (eight bytes)                          explains | goal P | constraint P | refused R
@@ -16,7 +17,7 @@
 //                                                               written N bytes HEX rest untouched | rest other;
 //                                                               refused R room untouched | room other (crate rooms)
 //   7 clean   image, group record (length in two bytes, at most 1,000; bytes), hypotheses (eight bytes), budget, room, work length
-//                                                               deleted | held and each verdict, as ` 0:needed 3:ruled_out` |
+//                                                               deleted | held and each verdict, as ` 0:needed 3:ruled-out` |
 //                                                               refused R, then as for 3 (crate verdicts)
 //  12 names   as for 6                                          as for 6
 //  13 admits  image, hypothesis (four), budget (four), work length (four)
