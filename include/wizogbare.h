@@ -1,6 +1,6 @@
 /* Wizogbare for callers in C and C++: the eight calls, their constants, and functions that take an answer apart.
  *
- * `rt staticlib embed` writes target/staticlib/libembed.a, for x86-64. What each call answers and leaves is proved:
+ * `tests/build embed` writes target/staticlib/libembed.a, for x86-64. What each call answers and leaves is proved:
  * crates/embed/src/lib.rt has the calls, crates/embed/specs/paper/Codes the codes.
  *
  * A list of sets is a run of 64-bit numbers, one for each set; abducible j is the number 2^j. A book's image is a run of
