@@ -15,6 +15,7 @@ WORD = re.compile(r'[^\s(){}.;,@"`«»]+')
 DEFINES = re.compile(r"^ *(?:(?:abbrev|unfoldable|pub) )*(?P<name>[^\s:(){}.;,@\"]+)(?: [({][^(){}]*[)}])* : (?P<type>.*)$")
 OPENS = re.compile(r"^ *(?:(?:abbrev|unfoldable|pub) )*(?:record|data|module) (?P<name>[^\s:(){}]+)")
 IMPORT = re.compile(r"^ *(?:pub |ghost )*use (?P<path>[^\s{]+?)\.?\{(?P<names>[^}]*)\}", re.M)
+DATA = re.compile(r"^(?P<indent> *)(?:pub )?data ")
 GOAL = re.compile(r"^(\{[^}]*\} → )?\(?(tie|goal|given)\.")
 GOALS = re.compile(r"(returns|loop-(holds|less|again)|(add|sub|cast|element|enum-known|part-walk)-.*|.*-requires)(-\d+)?$")
 # what the toolchain's script has turned in the crates, and not in must-fail edits and pages
@@ -48,7 +49,9 @@ written-read wrote-none
 # lemmas whose spelling a definition now takes; where these stand behind a dot they are functions of src/
 LEMMAS = {name: name + "_lem" for name in ("in_order", "names_in", "names_marked")}
 # names of their own files alone, or beside fields that the toolchain makes
-APART = {"bothWays", "is-bare", "isTrue"}
+APART = {"bothWays", "is-bare", "isTrue", "noRoom"}
+# lemmas of one crate whose spelling a constructor of it now takes
+CRATES = {"joiner": {"no_room": "no_room_lem"}}
 # kept for what they name: the toolchain reads these
 KEPT = {"invariant-loop", "decreases-loop"}
 
@@ -64,7 +67,14 @@ def defined():
     names = set()
     for path in antt():
         of_function = path.name == "Proof.antt"
+        data = None
         for line in path.read_text().splitlines():
+            # a line of a data type may declare several constructors
+            if data is not None and line.startswith(data + " "):
+                names |= set(line.partition(" : ")[0].split())
+            elif line.strip():
+                begins = DATA.match(line)
+                data = begins and begins["indent"]
             found = DEFINES.match(line)
             goal = found and of_function and (GOAL.match(found["type"]) or GOALS.match(found["name"]))
             if found and not goal:
@@ -162,7 +172,8 @@ def main():
         return 1
     for path in antt():
         text = path.read_text()
-        path.write_text(turn(text, table, "--", foreign(text)))
+        crate = path.relative_to(TOP / "crates").parts[0]
+        path.write_text(turn(text, table | CRATES.get(crate, {}), "--", foreign(text)))
     for path in sorted((TOP / "crates").glob("*/src/**/*.rt")):
         text = path.read_text()
         path.write_text(turn(text, table, "//", foreign(text) | set(LEMMAS)))

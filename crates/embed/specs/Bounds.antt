@@ -42,7 +42,7 @@ use Rattle.engine.specs.declared.Verdict.{Verdict}
 use Rattle.engine.specs.declared.Verdict.TheVariants as verdict
 use Rattle.area.specs.paper.Work.{work_numbers}
 use Rattle.image.specs.Encode.{longest_image, longest_image_lem}
-use Rattle.image.specs.paper.Writing.{Ending as Written, answer_of as writingOf}
+use Rattle.image.specs.paper.Writing.{Ending as Written, answer_of as writing_of}
 use Rattle.image.specs.declared.Writing.{Writing}
 use Rattle.image.specs.declared.Writing.TheVariants as writing
 use Rattle.spelling.specs.paper.Document.{Document}
@@ -328,7 +328,7 @@ pub writing_within : (what : Document → List ℕ) → Short what → (text roo
     → Writes what text room r after → WritingWithin r
 writing_within what few text room r after h = subst WritingWithin (sym h.answer) (go h.ending h.ends)
   where
-    go : (e : Written) → Ends what text (length room) e → WritingWithin (writingOf e)
+    go : (e : Written) → Ends what text (length room) e → WritingWithin (writing_of e)
     go e (malformed none) = (omega arith, omega arith)
     go e (clashes d s t) = (omega arith, omega arith)
     go e (turned d n at c t) = let k = (by_reader (image_of d) n at t).number in (k.some, omega (arith, k.most))

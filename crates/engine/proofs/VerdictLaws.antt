@@ -25,7 +25,7 @@ use Rattle.lister.specs.paper.Promise.{Result, broken, turned, searched, result_
 use Rattle.lister.specs.PromiseLaws.{Admitted as Admitted'}
 use Rattle.lister.specs.declared.Listing.{Listing}
 use Rattle.lister.specs.declared.Listing.TheVariants as listing
-use Rattle.admitting.specs.paper.Promise.{answer_of as answerAs, searched as searchedAs}
+use Rattle.admitting.specs.paper.Promise.{answer_of as answer_as, searched as searched_as}
 use Rattle.admitting.specs.AdmitLaws.{Sought}
 use Rattle.admitting.specs.declared.Admission.{Admission}
 use Rattle.admitting.specs.declared.Admission.TheVariants.{Admitted, Excluded}
@@ -97,12 +97,12 @@ module _ (image : List ℕ) (h budget : ℕ) (l : List ℕ) (n : ℕ) (list area
 
 -- what the second search answers, and what is left of the list
 module _ (n : ℕ) (list : List ℕ) where
-  told_admitted : (x : Seeking) (m : ℕ) → Admitted m ≡ answerAs (searchedAs x) → (Possible (n + m) ≡ by_second n x) × (list ≡ kept true x list list)
+  told_admitted : (x : Seeking) (m : ℕ) → Admitted m ≡ answer_as (searched_as x) → (Possible (n + m) ≡ by_second n x) × (list ≡ kept true x list list)
   told_admitted (admitted k) m e = let z : m ≡ k = cc in (ap (λ (j : ℕ). Possible (n + j)) z, refl)
   told_admitted (excluded k) m e = let z : ◌≡◌ {A = ℕ} 0 1 = cc in absurd (omega arith)
   told_admitted (spent k) m e = let z : ◌≡◌ {A = ℕ} 0 1 = cc in absurd (omega arith)
 
-  told_spent : (x : Seeking) (number m : ℕ) → admission.Refused number m ≡ answerAs (searchedAs x)
+  told_spent : (x : Seeking) (number m : ℕ) → admission.Refused number m ≡ answer_as (searched_as x)
       → (Refused number (n + m) ≡ by_second n x) × (zeros (length list) ≡ kept true x list list)
   told_spent (admitted k) number m e = let z : ◌≡◌ {A = ℕ} 0 1 = cc in absurd (omega arith)
   told_spent (excluded k) number m e = let z : ◌≡◌ {A = ℕ} 0 1 = cc in absurd (omega arith)

@@ -33,7 +33,7 @@ use Rattle.lister.specs.declared.Asked.{Asked}
 use Rattle.lister.specs.declared.Asked.TheVariants.{Broken as BrokenBook, Turned}
 use Rattle.lister.specs.declared.Listing.{Listing}
 use Rattle.lister.specs.declared.Listing.TheVariants as listing
-use Rattle.admitting.specs.paper.Promise.{answer_of as answerAs, searched as searchedAs}
+use Rattle.admitting.specs.paper.Promise.{answer_of as answer_as, searched as searched_as}
 use Rattle.admitting.specs.AdmitLaws.{Seekable, Sought, nodes_in, sought_few}
 use Rattle.admitting.specs.declared.Admission.{Admission}
 use Rattle.admitting.specs.declared.Admission.TheVariants.{Admitted, Excluded}
@@ -212,12 +212,12 @@ pub record Concluded (image : List ℕ) (h budget : ℕ) (l : List ℕ) (n : ℕ
 
 -- what the second search answers, and what is left of the list
 module _ (n : ℕ) (list : List ℕ) where
-  told_excluded : (x : Seeking) (m : ℕ) → Excluded m ≡ answerAs (searchedAs x) → (RuledOut (n + m) ≡ by_second n x) × (list ≡ kept true x list list)
+  told_excluded : (x : Seeking) (m : ℕ) → Excluded m ≡ answer_as (searched_as x) → (RuledOut (n + m) ≡ by_second n x) × (list ≡ kept true x list list)
   told_excluded (admitted k) m e = let z : ◌≡◌ {A = ℕ} 0 1 = cc in absurd (omega arith)
   told_excluded (excluded k) m e = let z : m ≡ k = cc in (ap (λ (j : ℕ). RuledOut (n + j)) z, refl)
   told_excluded (spent k) m e = let z : ◌≡◌ {A = ℕ} 0 1 = cc in absurd (omega arith)
 
-  told_broken : {A : Type 0} (x : Seeking) (number at : ℕ) → admission.Broken number at ≡ answerAs (searchedAs x) → A
+  told_broken : {A : Type 0} (x : Seeking) (number at : ℕ) → admission.Broken number at ≡ answer_as (searched_as x) → A
   told_broken (admitted k) number at e = let z : ◌≡◌ {A = ℕ} 0 1 = cc in absurd (omega arith)
   told_broken (excluded k) number at e = let z : ◌≡◌ {A = ℕ} 0 1 = cc in absurd (omega arith)
   told_broken (spent k) number at e = let z : ◌≡◌ {A = ℕ} 0 1 = cc in absurd (omega arith)

@@ -17,7 +17,7 @@ use Rattle.sets.specs.paper.Sets.{inside}
 use Rattle.sets.specs.paper.Kept.{insert, smallest, sort, zeros, longest}
 use Rattle.sets.specs.KeptLaws.{sort_length, smallest_keeps}
 use Rattle.kept.specs.Agreed.{AtFront}
-use Rattle.joiner.specs.paper.Join.{joint, Joins, Long, noRoom, result}
+use Rattle.joiner.specs.paper.Join.{joint, Joins, Long, no_room, result}
 use Rattle.joiner.specs.JoinLaws.{joins_by, ending_full, ending_result, keeps_result}
 use Rattle.joiner.specs.Gathering.{gathered, Fitted, FittedOf, gathered_stays, gathered_joins, gathered_length, gathered_append, gathered_keeps}
 use Rattle.joiner.specs.declared.Joined.TheVariants.{Count, Refused}
@@ -152,9 +152,9 @@ module _ (left right out : List ℕ) (fits : Long left right out → ⊥) {now :
   number : length g.kept ≡ length (joint left right)
   number = sym (sort_length g.kept) ∙ ap length (keeps_result left right g.keeps)
 
-  pub no_room : {after : List ℕ} → length out < count → after ≡ take 0 now ++ zeros (length now - 0) → Joins left right out (Refused 31) after
-  no_room h w =
-      joins_by noRoom (ending_full left right out fits (omega (arith, number, g.fitted.more (omega arith)))) refl
+  pub no_room_lem : {after : List ℕ} → length out < count → after ≡ take 0 now ++ zeros (length now - 0) → Joins left right out (Refused 31) after
+  no_room_lem h w =
+      joins_by no_room (ending_full left right out fits (omega (arith, number, g.fitted.more (omega arith)))) refl
       (w ∙ ap zeros (sub-zero (length now) ∙ size))
 
   pub filled : {sorted after : List ℕ} → count ≤ length out → sorted ≡ sort (take count now) ++ drop count now

@@ -2,14 +2,14 @@
 -- in the end it is the smallest sets.
 -- Assumes nothing.
 use Rattle.std.specs.Prelude.{◌≡◌, refl, Bool, true, false, ◌⊎◌, ℕ, ◌≤◌, ◌<◌, length}
-use Rattle.std.proofs.Common.{sym, subst, ◌∙◌, inl, inr, ⊎_elim, arith, length-append}
+use Rattle.std.proofs.Common.{sym, subst, ◌∙◌, inl, inr, arith, length-append}
 use Rattle.std.proofs.Math.Path.{ap}
 use mathlib.Core.List.Memᴰ
 use mathlib.Core.List.{List, [], ◌∷◌, ◌++◌, append-nil, append_assoc}
 use Rattle.base.specs.paper.Bools.{choose}
 use Rattle.base.specs.Bools.{clash, choose_true, choose_false}
 use Rattle.base.specs.paper.Lists.{◌∈◌, Every, any}
-use Rattle.base.specs.Lists.{Some, here, there, ∈_left, ∈_right, ∈_split, any_some, some_any, every_rest, every_both}
+use Rattle.base.specs.Lists.{Some, here, ∈_left, ∈_right, ∈_split, any_some, some_any, every_rest, every_both}
 use Rattle.base.specs.Parts.{pairwise_last}
 use Rattle.base.specs.Least
 use Rattle.sets.specs.paper.Sets.{inside}

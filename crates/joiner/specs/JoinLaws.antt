@@ -13,7 +13,7 @@ use Rattle.sets.specs.paper.Sets.{Proper}
 use Rattle.sets.specs.paper.Kept.{sort, longest}
 use Rattle.sets.specs.KeptLaws.{Keeps, keeps_members, keeps_once, smallest_keeps, smallest_proper, sort_members, sort_ordered, ordered_once, ordered_unique}
 use Rattle.joiner.specs.declared.Joined.{Joined}
-use Rattle.joiner.specs.paper.Join.{joint, Ending, tooLong, noRoom, result, long, ending, answer_of, entries_of, Joins, Either, Joint, Long, Outcome, refused20, refused31, counted}
+use Rattle.joiner.specs.paper.Join.{joint, Ending, too_long, no_room, result, long, ending, answer_of, entries_of, Joins, Either, Joint, Long, Outcome, refused20, refused31, counted}
 
 -- Two results that meet it are equal.
 pub joins_unique : {left right out : List ℕ} {r s : Joined} {a b : List ℕ} → Joins left right out r a → Joins left right out s b → (r ≡ s) × (a ≡ b)
@@ -85,7 +85,7 @@ test_false {t = true} f = absurd (f refl)
 test_false {t = false} f = refl
 
 -- which ending it is
-pub ending_long : (left right out : List ℕ) → Long left right out → ending left right (length out) ≡ tooLong
+pub ending_long : (left right out : List ℕ) → Long left right out → ending left right (length out) ≡ too_long
 unfolding ending
 ending_long left right out h = rw (long_test left right out h)
 
@@ -93,7 +93,7 @@ module _ (left right out : List ℕ) (fits : Long left right out → ⊥) where
   short : (long (length left) || (long (length right) || long (length out))) ≡ false
   short = test_false (λ t. fits (test_long left right out t))
 
-  pub ending_full : length out < length (joint left right) → ending left right (length out) ≡ noRoom
+  pub ending_full : length out < length (joint left right) → ending left right (length out) ≡ no_room
   unfolding ending
   ending_full h = rw (short, lt-ltb (length out) (length (joint left right)) h)
 
@@ -112,12 +112,12 @@ joins_outcome {left} {right} {out} {r} {after} p =
     go : ((long (length left) || (long (length right) || long (length out))) ≡ true) ⊎ ((long (length left) || (long (length right) || long (length out))) ≡ false)
         → (ltb (length out) (length (joint left right)) ≡ true) ⊎ (ltb (length out) (length (joint left right)) ≡ false) → Outcome left right out r after
     go (inl t) w =
-        let e = ends tooLong (ending_long left right out (test_long left right out t)) in
+        let e = ends too_long (ending_long left right out (test_long left right out t)) in
         refused20 (test_long left right out t) e.0 e.1
     go (inr t) (inl w) =
         let fits : Long left right out → ⊥ = λ h. clash (long_test left right out h) t in
         let more : length out < length (joint left right) = ltb-true (length out) (length (joint left right)) w in
-        let e = ends noRoom (ending_full left right out fits more) in
+        let e = ends no_room (ending_full left right out fits more) in
         refused31 (joint left right) fits (joint_is left right) more e.0 e.1
     go (inr t) (inr w) =
         let fits : Long left right out → ⊥ = λ h. clash (long_test left right out h) t in
@@ -126,14 +126,14 @@ joins_outcome {left} {right} {out} {r} {after} p =
         counted (joint left right) fits (joint_is left right) room e.0 e.1
 
 pub outcome_joins : {left right out : List ℕ} {r : Joined} {after : List ℕ} → Outcome left right out r after → Joins left right out r after
-outcome_joins {left} {right} {out} (refused20 h a s) = joins_by tooLong (ending_long left right out h) a s
+outcome_joins {left} {right} {out} (refused20 h a s) = joins_by too_long (ending_long left right out h) a s
 outcome_joins {left} {right} {out} (refused31 l fits j more a s) =
-    joins_by noRoom (ending_full left right out fits (subst (λ (m : List ℕ). length out < length m) (joint_unique j (joint_is left right)) more)) a s
+    joins_by no_room (ending_full left right out fits (subst (λ (m : List ℕ). length out < length m) (joint_unique j (joint_is left right)) more)) a s
 outcome_joins {left} {right} {out} (counted l fits j room a s) =
     let same : l ≡ joint left right = joint_unique j (joint_is left right) in
     joins_by (result l) (ending_result left right out fits (subst (λ (m : List ℕ). length m ≤ length out) same room) ∙ ap result (sym same)) a s
 
 -- {0,1,2} and {2} joined with {0,1} and {2}: {2} before {0,1}, where there is room for two
-two_lists : (ending (7 ∷ 4 ∷ []) (3 ∷ 4 ∷ []) 2 ≡ result (4 ∷ 3 ∷ [])) × (ending (7 ∷ 4 ∷ []) (3 ∷ 4 ∷ []) 1 ≡ noRoom)
+two_lists : (ending (7 ∷ 4 ∷ []) (3 ∷ 4 ∷ []) 2 ≡ result (4 ∷ 3 ∷ [])) × (ending (7 ∷ 4 ∷ []) (3 ∷ 4 ∷ []) 1 ≡ no_room)
 unfolding ending joint Order.sort Order.place Least.smallest Least.insert ones
 two_lists = (refl, refl)

@@ -59,18 +59,15 @@ slice_bounds-look-end c = sym (length-take-le _ _ (short c.before.before.before)
 
 pub look-requires : goal.look-requires
 look-requires c =
-    let m = c in
-    let a = (entry (tested m.before.before.before.before.before)).args in
-    let p = through (tested m.before.before.before.before.before) in
-    written_ripe a.book.now a.group.now a.hypotheses a.budget a.sets.now a.work.now p.0 p.1 p.2 _ _ _ m.write-bytes.ensures
+    let a = (entry (tested c.before.before.before.before.before)).args in
+    let p = through (tested c.before.before.before.before.before) in
+    written_ripe a.book.now a.group.now a.hypotheses a.budget a.sets.now a.work.now p.0 p.1 p.2 _ _ _ c.write-bytes.ensures
 
 pub returns : goal.returns
 returns c =
-    let looked = c in
-    let m = looked in
-    let a = (entry (tested m.before.before.before.before.before.before.before.before.before.before)).args in
-    let p = through (tested m.before.before.before.before.before.before.before.before.before.before) in
-    cleans_written a.book.now a.group.now a.hypotheses a.budget a.sets.now a.work.now p.0 p.1 p.2 _ _ _ m.write-bytes.ensures _ _ _ looked.look.ensures
+    let a = (entry (tested c.before.before.before.before.before.before.before.before.before.before)).args in
+    let p = through (tested c.before.before.before.before.before.before.before.before.before.before) in
+    cleans_written a.book.now a.group.now a.hypotheses a.budget a.sets.now a.work.now p.0 p.1 p.2 _ _ _ c.write-bytes.ensures _ _ _ c.look.ensures
 
 pub slice_bounds-room-end : goal.slice_bounds-room-end
 slice_bounds-room-end c = short c.before.before

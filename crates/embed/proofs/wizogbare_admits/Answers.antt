@@ -16,24 +16,20 @@ overflow_add-result-in-Broken c =
 
 pub returns-in-Admitted : goal.returns-in-Admitted
 returns-in-Admitted c =
-    let m = c in
-    record { answer = m.admits.result; admits = m.admits.ensures; code = sym (ap admission_code c.in-Admitted.is) }
+    record { answer = c.admits.result; admits = c.admits.ensures; code = sym (ap admission_code c.in-Admitted.is) }
 
 pub returns-in-Excluded : goal.returns-in-Excluded
 returns-in-Excluded c =
-    let m = c in
-    record { answer = m.admits.result; admits = m.admits.ensures; code = sym (ap admission_code c.in-Excluded.is) }
+    record { answer = c.admits.result; admits = c.admits.ensures; code = sym (ap admission_code c.in-Excluded.is) }
 
 pub returns-in-Broken : goal.returns-in-Broken
 returns-in-Broken c =
-    let m = c in
     record {
-      answer = m.admits.result;
-      admits = m.admits.ensures;
+      answer = c.admits.result;
+      admits = c.admits.ensures;
       code = ap (λ (x : ℕ). admits_broken + x) c.broken_code.ensures ∙ sym (ap admission_code c.in-Broken.is);
     }
 
 pub returns-in-Refused : goal.returns-in-Refused
 returns-in-Refused c =
-    let m = c in
-    record { answer = m.admits.result; admits = m.admits.ensures; code = sym (ap admission_code c.in-Refused.is) }
+    record { answer = c.admits.result; admits = c.admits.ensures; code = sym (ap admission_code c.in-Refused.is) }

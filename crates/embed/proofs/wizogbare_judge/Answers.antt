@@ -19,24 +19,20 @@ returns-in-Explains c = record { answer = c.judge.result; judges = c.judge.ensur
 
 pub returns-in-FalseGoal : goal.returns-in-FalseGoal
 returns-in-FalseGoal c =
-    let m = c in
-    record { answer = m.judge.result; judges = m.judge.ensures; code = sym (ap judgement_code c.in-FalseGoal.is) }
+    record { answer = c.judge.result; judges = c.judge.ensures; code = sym (ap judgement_code c.in-FalseGoal.is) }
 
 pub returns-in-BrokenConstraint : goal.returns-in-BrokenConstraint
 returns-in-BrokenConstraint c =
-    let m = c in
-    record { answer = m.judge.result; judges = m.judge.ensures; code = sym (ap judgement_code c.in-BrokenConstraint.is) }
+    record { answer = c.judge.result; judges = c.judge.ensures; code = sym (ap judgement_code c.in-BrokenConstraint.is) }
 
 pub returns-in-Broken : goal.returns-in-Broken
 returns-in-Broken c =
-    let m = c in
     record {
-      answer = m.judge.result;
-      judges = m.judge.ensures;
+      answer = c.judge.result;
+      judges = c.judge.ensures;
       code = ap (λ (x : ℕ). judge_broken + x) c.broken_code.ensures ∙ sym (ap judgement_code c.in-Broken.is);
     }
 
 pub returns-in-Refused : goal.returns-in-Refused
 returns-in-Refused c =
-    let m = c in
-    record { answer = m.judge.result; judges = m.judge.ensures; code = sym (ap judgement_code c.in-Refused.is) }
+    record { answer = c.judge.result; judges = c.judge.ensures; code = sym (ap judgement_code c.in-Refused.is) }

@@ -18,19 +18,16 @@ overflow_add-result-in-Broken c =
 
 pub returns-in-Listed : goal.returns-in-Listed
 returns-in-Listed c =
-    let m = c in
-    record { answer = m.list.result; lists = m.list.ensures; code = sym (ap listing_code c.in-Listed.is) }
+    record { answer = c.list.result; lists = c.list.ensures; code = sym (ap listing_code c.in-Listed.is) }
 
 pub returns-in-Broken : goal.returns-in-Broken
 returns-in-Broken c =
-    let m = c in
     record {
-      answer = m.list.result;
-      lists = m.list.ensures;
+      answer = c.list.result;
+      lists = c.list.ensures;
       code = ap (λ (x : ℕ). list_broken + x) c.broken_code.ensures ∙ sym (ap listing_code c.in-Broken.is);
     }
 
 pub returns-in-Refused : goal.returns-in-Refused
 returns-in-Refused c =
-    let m = c in
-    record { answer = m.list.result; lists = m.list.ensures; code = sym (ap listing_code c.in-Refused.is) }
+    record { answer = c.list.result; lists = c.list.ensures; code = sym (ap listing_code c.in-Refused.is) }

@@ -12,5 +12,4 @@ returns-in-Accepted c = record { answer = c.read.result; reads = c.read.ensures;
 
 pub returns-in-Refused : goal.returns-in-Refused
 returns-in-Refused c =
-    let m = c in
-    record { answer = m.read.result; reads = m.read.ensures; code = c.broken_code.ensures ∙ sym (ap reading_code c.in-Refused.is) }
+    record { answer = c.read.result; reads = c.read.ensures; code = c.broken_code.ensures ∙ sym (ap reading_code c.in-Refused.is) }

@@ -19,34 +19,28 @@ overflow_add-result-in-Broken c =
 
 pub returns-in-Unexplained : goal.returns-in-Unexplained
 returns-in-Unexplained c =
-    let m = c in
-    record { answer = m.verdict_on.result; verdicts = m.verdict_on.ensures; code = sym (ap verdict_code c.in-Unexplained.is) }
+    record { answer = c.verdict_on.result; verdicts = c.verdict_on.ensures; code = sym (ap verdict_code c.in-Unexplained.is) }
 
 pub returns-in-Needed : goal.returns-in-Needed
 returns-in-Needed c =
-    let m = c in
-    record { answer = m.verdict_on.result; verdicts = m.verdict_on.ensures; code = sym (ap verdict_code c.in-Needed.is) }
+    record { answer = c.verdict_on.result; verdicts = c.verdict_on.ensures; code = sym (ap verdict_code c.in-Needed.is) }
 
 pub returns-in-Possible : goal.returns-in-Possible
 returns-in-Possible c =
-    let m = c in
-    record { answer = m.verdict_on.result; verdicts = m.verdict_on.ensures; code = sym (ap verdict_code c.in-Possible.is) }
+    record { answer = c.verdict_on.result; verdicts = c.verdict_on.ensures; code = sym (ap verdict_code c.in-Possible.is) }
 
 pub returns-in-RuledOut : goal.returns-in-RuledOut
 returns-in-RuledOut c =
-    let m = c in
-    record { answer = m.verdict_on.result; verdicts = m.verdict_on.ensures; code = sym (ap verdict_code c.in-RuledOut.is) }
+    record { answer = c.verdict_on.result; verdicts = c.verdict_on.ensures; code = sym (ap verdict_code c.in-RuledOut.is) }
 
 pub returns-in-Broken : goal.returns-in-Broken
 returns-in-Broken c =
-    let m = c in
     record {
-      answer = m.verdict_on.result;
-      verdicts = m.verdict_on.ensures;
+      answer = c.verdict_on.result;
+      verdicts = c.verdict_on.ensures;
       code = ap (λ (x : ℕ). verdict_broken + x) c.broken_code.ensures ∙ sym (ap verdict_code c.in-Broken.is);
     }
 
 pub returns-in-Refused : goal.returns-in-Refused
 returns-in-Refused c =
-    let m = c in
-    record { answer = m.verdict_on.result; verdicts = m.verdict_on.ensures; code = sym (ap verdict_code c.in-Refused.is) }
+    record { answer = c.verdict_on.result; verdicts = c.verdict_on.ensures; code = sym (ap verdict_code c.in-Refused.is) }

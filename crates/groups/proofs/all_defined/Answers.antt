@@ -50,10 +50,9 @@ tested : (f : After-field_at)
     → is_defined (book_in (entry f.before.before).args.book.now) (field_at (entry f.before.before).args.group.now (observed_at + 2 * f.loop-i.i))
     ≡ (leb f.abducibles-abducibles.result f.field_at-atom.result && ltb f.field_at-atom.result f.atoms-atoms.result)
 tested f =
-    let a = f in
     let sh = shows _ (entry f.before.before).requires.0 in
     let atom = sym f.field_at-atom.ensures.0 in
-    ap₂ ◌&&◌ (ap₂ leb (sym (a.abducibles-abducibles.ensures.0 ∙ sh.abducibles)) atom) (ap₂ ltb atom (sym (a.atoms-atoms.ensures.0 ∙ sh.atoms)))
+    ap₂ ◌&&◌ (ap₂ leb (sym (f.abducibles-abducibles.ensures.0 ∙ sh.abducibles)) atom) (ap₂ ltb atom (sym (f.atoms-atoms.ensures.0 ∙ sh.atoms)))
 
 pub atoms-atoms-requires : goal.atoms-atoms-requires
 atoms-atoms-requires c = front c.before.before.before
@@ -80,19 +79,16 @@ pub overflow_add-i-in-loop-i : goal.overflow_add-i-in-loop-i
 overflow_add-i-in-loop-i c = omega (arith, there c.before.before.before.before, (entry c.before.before.before.before.before).well_formed)
 
 pub loop-i-smaller : goal.loop-i-smaller
-loop-i-smaller c = let m = c in omega (arith, left c.before.before.before.before, m.count-n.ensures.0)
+loop-i-smaller c = omega (arith, left c.before.before.before.before, c.count-n.ensures.0)
 
 pub loop-i-preserved : goal.loop-i-preserved
 loop-i-preserved c =
-    let f = c in
-    let m = f in
-    let e = tested f.before.before.before ∙ both _ _ (le-leb _ _ c.if-atom-abducibles.false) (lt-ltb _ _ c.if-atoms-atom.false) in
-    (omega (arith, left f.before.before.before.before, m.count-n.ensures.0), sym (all_met _ _ _ (left f.before.before.before.before) e) ∙ m.loop-i.invariant.1)
+    let e = tested c.before.before.before ∙ both _ _ (le-leb _ _ c.if-atom-abducibles.false) (lt-ltb _ _ c.if-atoms-atom.false) in
+    (omega (arith, left c.before.before.before.before, c.count-n.ensures.0), sym (all_met _ _ _ (left c.before.before.before.before) e) ∙ c.loop-i.invariant.1)
 
 pub returns-then-i-n : goal.returns-then-i-n
 returns-then-i-n c =
-    let m = c in
-    sym (all_none _ _ _ (omega (arith, c.if-i-n.true, m.count-n.ensures.0))) ∙ m.loop-i.invariant.1
+    sym (all_none _ _ _ (omega (arith, c.if-i-n.true, c.count-n.ensures.0))) ∙ c.loop-i.invariant.1
 
 -- an atom fails
 failed : (f : After-field_at)

@@ -18,6 +18,5 @@ field_at-clauses-requires c = omega (arith, clauses_fit _ c.requires.0, c.clause
 pub returns : goal.returns
 returns c =
     let n = c in
-    let s = n in
-    let clauses = n.field_at-clauses.ensures.0 ∙ ap (field_at _) n.clauses.ensures ∙ (shows _ s.requires.0).clauses in
+    let clauses = n.field_at-clauses.ensures.0 ∙ ap (field_at _) n.clauses.ensures ∙ (shows _ n.requires.0).clauses in
     ap (λ (n : ℕ). leb n limits.clauses) (ap₂ ◌+◌ clauses c.count.ensures.0)

@@ -1,10 +1,7 @@
 -- `joiner::gather` meets its contract.
 -- Assumes nothing.
-use Prim.Native.Nat.{◌-◌}
 use native.Mathlib.Omega.{arith}
-use borrow.Author.Rules.{rules}
-use lib.ListN.{length}
-use Rattle.joiner.proofs.Joining.{Gathering, gathering_start, gathering_stays, gathering_joins, gathering_full, gathering_end}
+use Rattle.joiner.proofs.Joining.{gathering_start, gathering_stays, gathering_joins, gathering_full, gathering_end}
 use mathlib.Core.Path.{ap}
 use mathlib.Core.Bool.{not}
 use Rattle.joiner.proofs.gather.Goals as goal

@@ -1,9 +1,7 @@
 -- `joiner::gather` meets its contract.
 use Prim.Native.Nat.{◌-◌}
-use native.Mathlib.Omega.{arith}
-use borrow.Author.Rules.{rules}
 use lib.ListN.{length}
-use Rattle.joiner.proofs.Joining.{Gathering, gathering_start, gathering_stays, gathering_joins, gathering_full, gathering_end}
+use Rattle.joiner.proofs.Joining.{Gathering}
 use Rattle.joiner.proofs.gather.Given as given
 
 abbrev pub invariant-loop-i : given.invariant-loop-i

@@ -1,6 +1,5 @@
 -- `joiner::gather_both` meets its contract: the left list, before the right one, then that.
 -- Assumes nothing.
-use borrow.Author.Rules.{rules}
 use Rattle.joiner.proofs.Joining.{from_end, gathered_full, gathered_both}
 use Rattle.joiner.proofs.gather_both.Goals as goal
 
@@ -12,5 +11,4 @@ returns-then-some-out c =
 pub returns : goal.returns
 returns c =
     let a = c.args in
-    let some = c in
-    gathered_both a.left.now a.right.now (some.gather-some.ensures.fits some.if-some-out.false).list (from_end a.right.now) c.gather.ensures
+    gathered_both a.left.now a.right.now (c.gather-some.ensures.fits c.if-some-out.false).list (from_end a.right.now) c.gather.ensures

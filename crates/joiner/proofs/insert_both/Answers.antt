@@ -10,5 +10,4 @@ returns-then-some-out c h = absurd (omega (arith, c.if-some-out.true))
 pub returns : goal.returns
 returns c h =
     let a = c.args in
-    let some = c in
-    inserted_both a.left.now a.right.now (some.insert_all-some.ensures some.if-some-out.false).list (c.insert_all.ensures h)
+    inserted_both a.left.now a.right.now (c.insert_all-some.ensures c.if-some-out.false).list (c.insert_all.ensures h)

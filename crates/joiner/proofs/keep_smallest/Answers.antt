@@ -1,6 +1,5 @@
 -- `joiner::keep_smallest` meets its contract: both ways keep the smallest sets.
 -- Assumes nothing.
-use borrow.Author.Rules.{rules}
 use Rattle.joiner.proofs.Joining.{by_inserting, by_gathering}
 use Rattle.joiner.proofs.keep_smallest.Goals as goal
 

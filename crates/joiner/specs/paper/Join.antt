@@ -14,7 +14,7 @@ joint left right = sort (smallest (left ++ right))
 
 -- how a join ends: a list is too long, the result outnumbers the third list's entries, or this is the result
 pub data Ending : Type 0 where
-  tooLong noRoom : Ending
+  too_long no_room : Ending
   result : List ℕ → Ending
 
 -- a list of n entries is too long
@@ -24,20 +24,20 @@ long n = ltb longest n
 -- A long list comes before all else, the third among them; room is asked of the result, and not of what is kept on the way.
 unfoldable pub ending : List ℕ → List ℕ → ℕ → Ending
 ending left right room =
-    choose (long (length left) || (long (length right) || long room)) tooLong
-    (choose (ltb room (length (joint left right))) noRoom
+    choose (long (length left) || (long (length right) || long room)) too_long
+    (choose (ltb room (length (joint left right))) no_room
     (result (joint left right)))
 
 -- the answer at each ending
 abbrev pub answer_of : Ending → Joined
-answer_of tooLong = Refused 20
-answer_of noRoom = Refused 31
+answer_of too_long = Refused 20
+answer_of no_room = Refused 31
 answer_of (result l) = Count (length l)
 
 -- the third list's entries at each ending: untouched, all 0, or the result and then zeros
 abbrev pub entries_of : Ending → List ℕ → List ℕ
-entries_of tooLong out = out
-entries_of noRoom out = zeros (length out)
+entries_of too_long out = out
+entries_of no_room out = zeros (length out)
 entries_of (result l) out = l ++ zeros (length out - length l)
 
 -- The joiner's promise: the answer, and every entry of the third list.

@@ -9,10 +9,9 @@ use Rattle.cleaner.proofs.listed.tell.Goals as goal
 
 pub returns : goal.returns
 returns c =
-    let e = c in
-    let l = take e.args.count e.args.list.now in
+    let l = take c.args.count c.args.list.now in
     record {
-      count = sym (length-take-le e.args.count e.args.list.now e.requires);
-      every = λ j. ap (λ (d : ℕ). has d j) c.in_every.ensures ∙ every_has l e.args.hypotheses j;
+      count = sym (length-take-le c.args.count c.args.list.now c.requires);
+      every = λ j. ap (λ (d : ℕ). has d j) c.in_every.ensures ∙ every_has l c.args.hypotheses j;
       some = λ j. ap (λ (d : ℕ). has d j) c.in_some.ensures ∙ any_has l j;
     }

@@ -37,7 +37,6 @@ returns c =
     let a = c.args in
     let b = book_in a.book.now in
     let numbers = of_numbers b a.hypotheses a.budget a.room a.space in
-    let m = c in
     c.of_numbers.ensures
-    ∙ ap (λ (f : Finding). number_of (and_then f numbers)) (sym (group_fine b a.group.now (sym m.of_group-number.ensures ∙ c.if-number-ne-NONE.false)))
-    ∙ ap (λ (t : Bool). number_of (unless t 40 (and_then (of_group b a.group.now) numbers))) (sym (some m.before.before.before.before))
+    ∙ ap (λ (f : Finding). number_of (and_then f numbers)) (sym (group_fine b a.group.now (sym c.of_group-number.ensures ∙ c.if-number-ne-NONE.false)))
+    ∙ ap (λ (t : Bool). number_of (unless t 40 (and_then (of_group b a.group.now) numbers))) (sym (some c.before.before.before.before))

@@ -41,8 +41,7 @@ low m = le-leb _ _ m.if-budget-gt-MOST_BUDGET.false
 above : (m : After-names_above)
     → let a = m.args in m.names_above.result ≡ leb (2 ^ (book_in a.book.now).abducibles) a.hypotheses
 above m =
-    let e = m in
-    m.names_above.ensures ∙ ap (λ n. leb (2 ^ n) e.args.hypotheses) (m.abducibles.ensures.0 ∙ (shows _ e.requires).abducibles)
+    m.names_above.ensures ∙ ap (λ n. leb (2 ^ n) m.args.hypotheses) (m.abducibles.ensures.0 ∙ (shows _ m.requires).abducibles)
 
 pub returns-then-room-gt-LONGEST : goal.returns-then-room-gt-LONGEST
 returns-then-room-gt-LONGEST c = simp (lt-leb _ longest c.if-room-gt-LONGEST.true)
@@ -58,14 +57,12 @@ abducibles-requires c = shown_front (shows _ c.requires)
 
 pub returns-then-names_above : goal.returns-then-names_above
 returns-then-names_above c =
-    let m = c in
-    let a = m.args in
+    let a = c.args in
     let most : ℕ = 2 ^ (book_in a.book.now).abducibles in
-    simp (entries m.before.before.before.before.before.before, long m.before.before.before.before.before, low m.before.before.before.before, le-ltb a.hypotheses most (leb-true most a.hypotheses (sym (above c.before.before) ∙ c.if-names_above.true)))
+    simp (entries c.before.before.before.before.before.before, long c.before.before.before.before.before, low c.before.before.before.before, le-ltb a.hypotheses most (leb-true most a.hypotheses (sym (above c.before.before) ∙ c.if-names_above.true)))
 
 pub returns : goal.returns
 returns c =
-    let m = c in
-    let a = m.args in
+    let a = c.args in
     let most : ℕ = 2 ^ (book_in a.book.now).abducibles in
-    simp (entries m.before.before.before.before.before.before, long m.before.before.before.before.before, low m.before.before.before.before, lt-ltb a.hypotheses most (leb-false most a.hypotheses (sym (above c.before.before) ∙ c.if-names_above.false)))
+    simp (entries c.before.before.before.before.before.before, long c.before.before.before.before.before, low c.before.before.before.before, lt-ltb a.hypotheses most (leb-false most a.hypotheses (sym (above c.before.before) ∙ c.if-names_above.false)))

@@ -9,11 +9,8 @@ returns-then-not-is_in c =
 
 pub sort_one-requires : goal.sort_one-requires
 sort_one-requires c =
-    let m = c in
-    ready_one m.requires.0 _ (sym m.is_in.ensures ∙ c.if-not-is_in.false)
+    ready_one c.requires.0 _ (sym c.is_in.ensures ∙ c.if-not-is_in.false)
 
 pub returns : goal.returns
 returns c =
-    let one = c in
-    let m = one in
-    next_one _ _ _ _ _ _ _ m.requires.1 (sym m.is_in.ensures ∙ one.if-not-is_in.false) _ _ one.sort_one.ensures
+    next_one _ _ _ _ _ _ _ c.requires.1 (sym c.is_in.ensures ∙ c.if-not-is_in.false) _ _ c.sort_one.ensures

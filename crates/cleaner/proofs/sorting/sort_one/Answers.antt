@@ -39,8 +39,7 @@ with_needed-requires c = hypothesis_small (entry c.before.before.before).require
 
 pub returns-then-is_in : goal.returns-then-is_in
 returns-then-is_in c =
-    let m = c in
-    one_needed _ _ _ _ _ _ m.if-listed-eq0.false (sym m.is_in.ensures ∙ c.if-is_in.true) _ c.with_needed.ensures
+    one_needed _ _ _ _ _ _ c.if-listed-eq0.false (sym c.is_in.ensures ∙ c.if-is_in.true) _ c.with_needed.ensures
 
 pub is_in-requires-2 : goal.is_in-requires-2
 is_in-requires-2 c = hypothesis_small (entry c.before.before.before).requires
@@ -50,14 +49,11 @@ with_possible-requires c = hypothesis_small (entry c.before.before.before.before
 
 pub returns-then-is_in-2 : goal.returns-then-is_in-2
 returns-then-is_in-2 c =
-    let m = c in
-    one_possible _ _ _ _ _ _ m.if-listed-eq0.false (not_in_every m.before.before.before.before) (sym m.is_in-2.ensures ∙ c.if-is_in-2.true) _ c.with_possible.ensures
+    one_possible _ _ _ _ _ _ c.if-listed-eq0.false (not_in_every c.before.before.before.before) (sym c.is_in-2.ensures ∙ c.if-is_in-2.true) _ c.with_possible.ensures
 
 pub by_second-requires : goal.by_second-requires
 by_second-requires c = (entry c.before.before.before.before.before.before).requires
 
 pub returns : goal.returns
 returns c =
-    let second = c in
-    let m = second in
-    one_second _ _ _ _ _ _ m.if-listed-eq0.false (not_in_every m.before.before.before.before.before.before.before) (sym m.is_in-2.ensures ∙ second.if-is_in-2.false) second.by_second.ensures
+    one_second _ _ _ _ _ _ c.if-listed-eq0.false (not_in_every c.before.before.before.before.before.before.before) (sym c.is_in-2.ensures ∙ c.if-is_in-2.false) c.by_second.ensures

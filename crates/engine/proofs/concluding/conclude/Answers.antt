@@ -24,5 +24,4 @@ returns-in-Possible c = concluded_settled _ _ _ _ _ _ _ _ c.decide.ensures settl
 
 pub returns-in-Open : goal.returns-in-Open
 returns-in-Open c =
-    let m = c in
-    concluded_open _ _ _ _ _ _ _ _ m.decide.ensures m.in-Open.is _ _ _ m.by_second.ensures
+    concluded_open _ _ _ _ _ _ _ _ c.decide.ensures c.in-Open.is _ _ _ c.by_second.ensures

@@ -28,23 +28,20 @@ some m e = m.if-count-eq0.false (sym (length-take-le m.args.count m.args.sets.no
 
 pub returns-then-in_every : goal.returns-then-in_every
 returns-then-in_every c =
-    let m = c in
     sym
-    (settles_by m.args.hypothesis (front m.before.before.before) (some m.before.before.before)
+    (settles_by c.args.hypothesis (front c.before.before.before) (some c.before.before.before)
     ∙ choose_true _ _ (sym c.in_every.ensures ∙ c.if-in_every.true))
 
 pub returns-then-in_some : goal.returns-then-in_some
 returns-then-in_some c =
-    let m = c in
     sym
-    (settles_by m.args.hypothesis (front m.before.before.before.before.before) (some m.before.before.before.before.before)
+    (settles_by c.args.hypothesis (front c.before.before.before.before.before) (some c.before.before.before.before.before)
     ∙ choose_false _ _ (sym c.in_every.ensures ∙ c.if-in_every.false)
     ∙ choose_true _ _ (sym c.in_some.ensures ∙ c.if-in_some.true))
 
 pub returns : goal.returns
 returns c =
-    let m = c in
     sym
-    (settles_by m.args.hypothesis (front m.before.before.before.before.before) (some m.before.before.before.before.before)
+    (settles_by c.args.hypothesis (front c.before.before.before.before.before) (some c.before.before.before.before.before)
     ∙ choose_false _ _ (sym c.in_every.ensures ∙ c.if-in_every.false)
     ∙ choose_false _ _ (sym c.in_some.ensures ∙ c.if-in_some.false))

@@ -23,18 +23,17 @@ kept m = owed_length m.loop-i.invariant.1
 -- the place is within the room
 within : (c : In-loop) → c.loop-i.end < length c.loop-i.image
 within c =
-    let s = c in
-    let bytes = s.args.bytes.now in
-    let to = s.args.to in
+    let bytes = c.args.bytes.now in
+    let to = c.args.to in
     let owed = c.loop-i.invariant.1 in
     omega (
       arith,
       c.loop-i-test.true,
       owed.place,
-      length-slice c.loop-i.i to bytes s.requires.within,
-      length-slice s.args.from to bytes s.requires.within,
+      length-slice c.loop-i.i to bytes c.requires.within,
+      length-slice c.args.from to bytes c.requires.within,
       kept c.before,
-      s.requires.room,
+      c.requires.room,
     )
 
 pub loop-i-init : goal.loop-i-init
@@ -54,17 +53,13 @@ overflow_add-end c = omega (arith, within c.before.before, kept c.before.before.
 
 pub loop-i-preserved : goal.loop-i-preserved
 loop-i-preserved c =
-    let m = c in
-    let s = m in
-    let i = m.loop-i.i in
-    (omega (arith, c.loop-i-test.true), owed_step (next s.args.bytes.now i s.args.to c.loop-i-test.true s.requires.within) m.loop-i.invariant.1 (wrote_byte _ _ _))
+    let i = c.loop-i.i in
+    (omega (arith, c.loop-i-test.true), owed_step (next c.args.bytes.now i c.args.to c.loop-i-test.true c.requires.within) c.loop-i.invariant.1 (wrote_byte _ _ _))
 
 pub shape_of-image : goal.shape_of-image
 shape_of-image c = kept c.before.before
 
 pub returns : goal.returns
 returns c =
-    let m = c in
-    let s = m in
-    let all : m.loop-i.i ≡ s.args.to = omega (arith, m.loop-i.invariant.0, c.loop-i-test.false) in
-    owed_none (ap (λ (i : ℕ). slice i s.args.to s.args.bytes.now) all ∙ slice_empty s.args.to s.args.bytes.now) m.loop-i.invariant.1
+    let all : c.loop-i.i ≡ c.args.to = omega (arith, c.loop-i.invariant.0, c.loop-i-test.false) in
+    owed_none (ap (λ (i : ℕ). slice i c.args.to c.args.bytes.now) all ∙ slice_empty c.args.to c.args.bytes.now) c.loop-i.invariant.1

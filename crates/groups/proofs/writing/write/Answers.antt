@@ -44,17 +44,17 @@ entry k = k.before.before.before.before.before.before
 abbrev by_front : After-write_front → After-constraints
 by_front p = p.before.before
 
-abbrev by-goal : After-copy → After-constraints
-by-goal p = by_front p.before.before.before.before
+abbrev by_goal : After-copy → After-constraints
+by_goal p = by_front p.before.before.before.before
 
 abbrev by_count : After-put_field → After-constraints
-by_count p = by-goal p.before.before.before.before.before
+by_count p = by_goal p.before.before.before.before.before
 
-abbrev by-clauses : After-copy2 → After-constraints
-by-clauses p = by_count p.before.before.before.before
+abbrev by_clauses : After-copy2 → After-constraints
+by_clauses p = by_count p.before.before.before.before
 
-abbrev by-facts : After-write_facts → After-constraints
-by-facts p = by-clauses p.before.before.before.before
+abbrev by_facts : After-write_facts → After-constraints
+by_facts p = by_clauses p.before.before.before.before
 
 found : (k : After-constraints) → Found (entry k).args.book.now (entry k).args.group.now k.clauses-clauses.result k.constraints-constraints.result k.count-facts.result
 found k = record { clauses = k.clauses-clauses.ensures; constraints = k.constraints-constraints.ensures; observations = k.count-facts.ensures.0 }
@@ -67,9 +67,9 @@ places k = ordered (entry k).requires (found k)
 front_reached : (p : After-write_front) → Reached (entry (by_front p)).args.image.now p.write_front.new.image atoms_at atoms_at
 front_reached p = record { kept = wrote_length p.write_front.ensures; here = refl }
 
-goal_reached : (p : After-copy) → Reached (entry (by-goal p)).args.image.now p.copy-counted.new.image p.copy-counted.result (by-goal p).clauses-clauses.result
+goal_reached : (p : After-copy) → Reached (entry (by_goal p)).args.image.now p.copy-counted.new.image p.copy-counted.result (by_goal p).clauses-clauses.result
 goal_reached p =
-    let k = by-goal p in
+    let k = by_goal p in
     let o = places k in
     reached_on (front_reached p.before.before.before.before) p.copy-counted.ensures
     (omega (arith, length-slice atoms_at k.clauses-clauses.result (entry k).args.book.now (omega (arith, o.order, o.within)), o.front))
@@ -77,17 +77,17 @@ goal_reached p =
 count_reached : (p : After-put_field) → Reached (entry (by_count p)).args.image.now p.put_field.new.image (p.copy-counted.result + 2) ((by_count p).clauses-clauses.result + 2)
 count_reached p = reached_on (goal_reached p.before.before.before.before.before) (wrote_field _ p.put_field.ensures) refl
 
-clauses_reached : (p : After-copy2) → Reached (entry (by-clauses p)).args.image.now p.copy-told.new.image p.copy-told.result (by-clauses p).constraints-constraints.result
+clauses_reached : (p : After-copy2) → Reached (entry (by_clauses p)).args.image.now p.copy-told.new.image p.copy-told.result (by_clauses p).constraints-constraints.result
 clauses_reached p =
-    let k = by-clauses p in
+    let k = by_clauses p in
     let o = places k in
     reached_on (count_reached p.before.before.before.before) p.copy-told.ensures
     (omega (arith, length-slice (k.clauses-clauses.result + 2) k.constraints-constraints.result (entry k).args.book.now o.within, o.order))
 
 facts_reached : (p : After-write_facts)
-    → Reached (entry (by-facts p)).args.image.now p.write_facts-added.new.image p.write_facts-added.result ((by-facts p).constraints-constraints.result + fact_length * (by-facts p).count-facts.result)
+    → Reached (entry (by_facts p)).args.image.now p.write_facts-added.new.image p.write_facts-added.result ((by_facts p).constraints-constraints.result + fact_length * (by_facts p).count-facts.result)
 facts_reached p =
-    let k = by-facts p in
+    let k = by_facts p in
     reached_on (clauses_reached p.before.before.before.before) p.write_facts-added.ensures
     (omega (arith, length_fact_bytes (observed (entry k).args.group.now), k.count-facts.ensures.0))
 
@@ -100,63 +100,50 @@ overflow_sub-bytes c = let o = places c.before.before in omega (arith, o.front, 
 
 pub copy-counted-requires : goal.copy-counted-requires
 copy-counted-requires c =
-    let p = c in
-    let o = places (by_front p.before.before.before.before) in
+    let o = places (by_front c.before.before.before.before) in
     record {
       order = o.front;
       within = omega (arith, o.order, o.within);
-      room = omega (arith, (front_reached p.before.before.before.before).kept, o.front, o.order, o.within, o.room);
+      room = omega (arith, (front_reached c.before.before.before.before).kept, o.front, o.order, o.within, o.room);
     }
 
 pub field_at-requires : goal.field_at-requires
-field_at-requires c = let o = places (by-goal c.before.before.before.before) in omega (arith, o.order, o.within)
+field_at-requires c = let o = places (by_goal c.before.before.before.before) in omega (arith, o.order, o.within)
 
 pub put_field-requires : goal.put_field-requires
 put_field-requires c =
-    let p = c in
-    let o = places (by-goal p.before.before.before.before.before) in
-    omega (arith, (goal_reached p.before.before.before.before.before).kept, (goal_reached p.before.before.before.before.before).here, o.order, o.within, o.room)
+    let o = places (by_goal c.before.before.before.before.before) in
+    omega (arith, (goal_reached c.before.before.before.before.before).kept, (goal_reached c.before.before.before.before.before).here, o.order, o.within, o.room)
 
 pub overflow_add-clauses : goal.overflow_add-clauses
 overflow_add-clauses c = let o = places (by_count c.before.before.before) in omega (arith, o.order, o.within)
 
 pub overflow_add-counted : goal.overflow_add-counted
 overflow_add-counted c =
-    let p = c in
-    let o = places (by_count p.before.before.before.before) in
-    omega (arith, (count_reached p.before.before.before.before).here, o.order, o.within)
+    let o = places (by_count c.before.before.before.before) in
+    omega (arith, (count_reached c.before.before.before.before).here, o.order, o.within)
 
 pub copy-told-requires : goal.copy-told-requires
 copy-told-requires c =
-    let p = c in
-    let o = places (by_count p.before.before.before.before) in
-    record { order = o.order; within = o.within; room = omega (arith, (count_reached p.before.before.before.before).kept, (count_reached p.before.before.before.before).here, o.order, o.within, o.room) }
+    let o = places (by_count c.before.before.before.before) in
+    record { order = o.order; within = o.within; room = omega (arith, (count_reached c.before.before.before.before).kept, (count_reached c.before.before.before.before).here, o.order, o.within, o.room) }
 
 pub write_facts-added-requires : goal.write_facts-added-requires
 write_facts-added-requires c =
-    let p = c in
-    let k = by-clauses p.before.before.before.before in
+    let k = by_clauses c.before.before.before.before in
     let o = places k in
     record {
       formed = (entry k).requires.formed;
-      room = omega (arith, (clauses_reached p.before.before.before.before).kept, (clauses_reached p.before.before.before.before).here, k.count-facts.ensures.0, o.within, o.room);
+      room = omega (arith, (clauses_reached c.before.before.before.before).kept, (clauses_reached c.before.before.before.before).here, k.count-facts.ensures.0, o.within, o.room);
     }
 
 pub copy-requires : goal.copy-requires
 copy-requires c =
-    let p = c in
-    let o = places (by-facts p.before.before.before.before) in
-    record { order = o.within; within = omega arith; room = omega (arith, (facts_reached p.before.before.before.before).kept, (facts_reached p.before.before.before.before).here, o.within, o.room) }
+    let o = places (by_facts c.before.before.before.before) in
+    record { order = o.within; within = omega arith; room = omega (arith, (facts_reached c.before.before.before.before).kept, (facts_reached c.before.before.before.before).here, o.within, o.room) }
 
 pub returns : goal.returns
 returns c =
-    let q = c in
-    let g = q in
-    let t = g in
-    let u = t in
-    let f = u in
-    let r = f in
-    let p = r in
-    let k = by_front p.before.before.before.before.before.before.before.before.before.before.before.before.before.before.before.before.before.before.before.before.before.before.before.before in
+    let k = by_front c.before.before.before.before.before.before.before.before.before.before.before.before.before.before.before.before.before.before.before.before.before.before.before.before in
     group_wrote (entry k).requires (found k) (λ i. (k.shared_slice_known-1.given i).fits)
-    f.field_at.ensures.0 p.write_front.ensures r.copy-counted.ensures u.put_field.ensures t.copy-told.ensures g.write_facts-added.ensures q.copy.ensures
+    c.field_at.ensures.0 c.write_front.ensures c.copy-counted.ensures c.put_field.ensures c.copy-told.ensures c.write_facts-added.ensures c.copy.ensures

@@ -48,16 +48,15 @@ there t = observed_within _ _ (formed _ (entry t.before).requires.formed) (left 
 -- and there is room for its fact
 space : (t : In-loop) → t.loop-i.end + fact_length ≤ length (entry t.before).args.image.now
 space t =
-    let m = t in
-    let s = entry m.before in
+    let s = entry t.before in
     let group = s.args.group.now in
     omega (
       arith,
-      m.loop-i.invariant.1.place,
+      t.loop-i.invariant.1.place,
       s.requires.room,
       length_fact_bytes (observed group),
-      length_fact_bytes (observed_from group m.loop-i.i),
-      ap length (observed_next group m.loop-i.i (left t)),
+      length_fact_bytes (observed_from group t.loop-i.i),
+      ap length (observed_next group t.loop-i.i (left t)),
     )
 
 pub count-n-requires : goal.count-n-requires
@@ -85,7 +84,7 @@ pub overflow_cast-field_at : goal.overflow_cast-field_at
 overflow_cast-field_at c = omega (arith, c.field_at.ensures.1)
 
 pub put_field-requires-in-loop-i : goal.put_field-requires-in-loop-i
-put_field-requires-in-loop-i c = let p = c in omega (arith, space p.before.before.before.before.before.before.before, kept_on p.before.before.before.before.before)
+put_field-requires-in-loop-i c = omega (arith, space c.before.before.before.before.before.before.before, kept_on c.before.before.before.before.before)
 
 pub overflow_add-end-in-loop-i : goal.overflow_add-end-in-loop-i
 overflow_add-end-in-loop-i c = omega (arith, space c.before.before.before.before.before.before.before.before.before.before)
@@ -94,23 +93,17 @@ pub overflow_add-i-in-loop-i : goal.overflow_add-i-in-loop-i
 overflow_add-i-in-loop-i c = omega (arith, there c.before.before.before.before.before.before.before.before.before.before)
 
 pub loop-i-smaller : goal.loop-i-smaller
-loop-i-smaller c = let t = c in omega (arith, t.loop-i-test.true)
+loop-i-smaller c = omega (arith, c.loop-i-test.true)
 
 pub loop-i-preserved : goal.loop-i-preserved
 loop-i-preserved c =
-    let q = c in
-    let f = q in
-    let p = f in
-    let t = p in
-    let m = t in
-    let group = (entry m.before.before.before.before.before.before.before.before.before.before.before).args.group.now in
-    let atoms = observed_next group m.loop-i.i (left t.before.before.before.before.before.before.before.before.before.before) ∙ ap (λ (x : ℕ). x ∷ observed_from group (m.loop-i.i + 1)) (sym f.field_at.ensures.0) in
-    (omega (arith, t.loop-i-test.true), owed_step (ap fact_bytes atoms) m.loop-i.invariant.1 (fact_wrote f.field_at.result p.put_field.ensures q.put_field-in-loop-i.ensures))
+    let group = (entry c.before.before.before.before.before.before.before.before.before.before.before).args.group.now in
+    let atoms = observed_next group c.loop-i.i (left c.before.before.before.before.before.before.before.before.before.before) ∙ ap (λ (x : ℕ). x ∷ observed_from group (c.loop-i.i + 1)) (sym c.field_at.ensures.0) in
+    (omega (arith, c.loop-i-test.true), owed_step (ap fact_bytes atoms) c.loop-i.invariant.1 (fact_wrote c.field_at.result c.put_field.ensures c.put_field-in-loop-i.ensures))
 
 pub shape_of-image : goal.shape_of-image
 shape_of-image c = kept c.before.before
 
 pub returns : goal.returns
 returns c =
-    let m = c in
-    owed_none (ap fact_bytes (observed_none _ _ (omega (arith, c.loop-i-test.false, m.count-n.ensures.0)))) m.loop-i.invariant.1
+    owed_none (ap fact_bytes (observed_none _ _ (omega (arith, c.loop-i-test.false, c.count-n.ensures.0)))) c.loop-i.invariant.1

@@ -20,15 +20,12 @@ pub put_field-requires : goal.put_field-requires
 put_field-requires c = simp length-set (omega arith)
 
 pub put_field-requires-2 : goal.put_field-requires-2
-put_field-requires-2 c = let p = c in omega (arith, after_high p.before.before.before, p.requires)
+put_field-requires-2 c = omega (arith, after_high c.before.before.before, c.requires)
 
 pub shape_of-image : goal.shape_of-image
 shape_of-image c =
-    let q = c in
-    ap length q.put_field-2.ensures ∙ length_laid _ _ _ ∙ after_high q.before.before.before.before.before.before.before
+    ap length c.put_field-2.ensures ∙ length_laid _ _ _ ∙ after_high c.before.before.before.before.before.before.before
 
 pub returns : goal.returns
 returns c =
-    let q = c in
-    let p = q in
-    front_wrote p.args.size p.put_field.ensures q.put_field-2.ensures
+    front_wrote c.args.size c.put_field.ensures c.put_field-2.ensures
