@@ -49,7 +49,7 @@ written-read wrote-none
 # lemmas whose spelling a definition now takes; where these stand behind a dot they are functions of src/
 LEMMAS = {name: name + "_lem" for name in ("in_order", "names_in", "names_marked")}
 # names of their own files alone, or beside fields that the toolchain makes
-APART = {"bothWays", "is-bare", "isTrue", "noRoom"}
+APART = {"bothWays", "is-bare", "isTrue", "noRoom", "tooLong"}
 # lemmas of one crate whose spelling a constructor of it now takes
 CRATES = {"joiner": {"no_room": "no_room_lem"}}
 # kept for what they name: the toolchain reads these
