@@ -1,8 +1,8 @@
 -- The ways to what `admits` answers; that the promise fixes it, and that it is right by the meaning.
 -- Assumes nothing.
-use Rattle.std.specs.Prelude.{ℕ, ◌≤◌, ◌<◌, refl, Bool, List, ◌++◌, ltb, length, drop}
+use Rattle.std.specs.Prelude.{ℕ, ◌≤◌, ◌<◌, refl, Bool, List, ◌++◌, ltb, length, drop, Result as Returned, Ok, Err}
 use Rattle.std.proofs.Common.{arith, sym, subst, ◌∙◌, lt-ltb, le-ltb}
-use Rattle.std.proofs.Math.Path.{◌≡◌, ap}
+use Rattle.std.proofs.Math.Path.{◌≡◌, ap, ap₂}
 use Rattle.std.proofs.Math.Bool.{true, false}
 use Rattle.base.specs.paper.Bools.{choose}
 use Rattle.base.specs.Bools.{choose_true, choose_false}
@@ -21,16 +21,50 @@ use Rattle.machine.specs.Agreed.{outcome_in, Told}
 use Rattle.lister.specs.paper.Promise.{most_budget}
 use Rattle.lister.specs.paper.Promise as listing
 use Rattle.lister.specs.PromiseLaws.{Admitted as Admitted', Early}
-use Rattle.lister.specs.declared.Asked.{Asked}
-use Rattle.lister.specs.declared.Asked.TheVariants.{Broken as BrokenBook, Turned}
-use Rattle.admitting.specs.declared.Admission.{Admission}
-use Rattle.admitting.specs.declared.Admission.TheVariants.{Admitted, Excluded, Broken, Refused}
-use Rattle.admitting.specs.paper.Promise.{Result, broken, turned, searched, by_book, result_of, answer_of, work_of, Says, Admits}
+use Rattle.lister.specs.declared.NoAnswer.{NoAnswer}
+use Rattle.lister.specs.declared.NoAnswer.TheVariants as none
+use Rattle.image.specs.paper.Refusals.{number_of}
+use Rattle.image.specs.RefusalLaws.{number_tells}
+use Rattle.image.specs.declared.refusals.Refusal.{Refusal}
+use Rattle.admitting.specs.declared.Admission.{Admission as Found}
+use Rattle.admitting.specs.declared.Admission.TheVariants as declared
+use Rattle.admitting.specs.paper.Promise.{Admission, Admitted, Excluded, Broken, Refused, admission, Result, broken, turned, searched, by_book, result_of, answer_of, work_of, Says, Admits}
 
 -- two results that meet the promise are equal
 pub admits_unique : (image : List ℕ) (h budget : ℕ) (area : List ℕ) (r q : Admission) (area₁ area₂ : List ℕ)
     → Admits image h budget area r area₁ → Admits image h budget area q area₂ → (r ≡ q) × (area₁ ≡ area₂)
 admits_unique image h budget area r q area₁ area₂ a b = (a.answer ∙ sym b.answer, a.work ∙ sym b.work)
+
+-- what `admits` returns is told by its admission, so two of its results that meet the promise are equal too
+pub admission_tells : (q r : Returned Found NoAnswer) → admission q ≡ admission r → q ≡ r
+admission_tells (Ok (declared.Admitted m)) (Ok (declared.Admitted n)) e = cc
+admission_tells (Ok (declared.Admitted m)) (Ok (declared.Excluded n)) e = cc
+admission_tells (Ok (declared.Admitted m)) (Err (none.Broken g)) e = cc
+admission_tells (Ok (declared.Admitted m)) (Err (none.Refused b n)) e = cc
+admission_tells (Ok (declared.Excluded m)) (Ok (declared.Admitted n)) e = cc
+admission_tells (Ok (declared.Excluded m)) (Ok (declared.Excluded n)) e = cc
+admission_tells (Ok (declared.Excluded m)) (Err (none.Broken g)) e = cc
+admission_tells (Ok (declared.Excluded m)) (Err (none.Refused b n)) e = cc
+admission_tells (Err (none.Broken f)) (Ok (declared.Admitted n)) e = cc
+admission_tells (Err (none.Broken f)) (Ok (declared.Excluded n)) e = cc
+admission_tells (Err (none.Broken f)) (Err (none.Broken g)) e =
+    let number : number_of f.refusal ≡ number_of g.refusal = cc in
+    let place : f.place ≡ g.place = cc in
+    ap₂ (λ (r : Refusal) (p : ℕ). Err (none.Broken (record { refusal = r; place = p }))) (number_tells _ _ number) place
+admission_tells (Err (none.Broken f)) (Err (none.Refused b n)) e = cc
+admission_tells (Err (none.Refused a m)) (Ok (declared.Admitted n)) e = cc
+admission_tells (Err (none.Refused a m)) (Ok (declared.Excluded n)) e = cc
+admission_tells (Err (none.Refused a m)) (Err (none.Broken g)) e = cc
+admission_tells (Err (none.Refused a m)) (Err (none.Refused b n)) e =
+    let number : number_of a ≡ number_of b = cc in
+    let nodes : m ≡ n = cc in
+    ap₂ (λ (r : Refusal) (k : ℕ). Err (none.Refused r k)) (number_tells _ _ number) nodes
+
+pub results_unique : (image : List ℕ) (h budget : ℕ) (area : List ℕ) (r q : Returned Found NoAnswer) (area₁ area₂ : List ℕ)
+    → Admits image h budget area (admission r) area₁ → Admits image h budget area (admission q) area₂ → (r ≡ q) × (area₁ ≡ area₂)
+results_unique image h budget area r q area₁ area₂ a b =
+    let u = admits_unique image h budget area (admission r) (admission q) area₁ area₂ a b in
+    (admission_tells r q u.0, u.1)
 
 -- what the second search finds is so
 pub sought_says : (image : List ℕ) (b : Book) → decode image ≡ accepted b → (h budget : ℕ) → h < b.abducibles → Says b h (answer_of (searched (sought b h budget)))
@@ -133,21 +167,19 @@ module _ (image : List ℕ) (h budget space : ℕ) where
     named k = on_book ∙ choose_true _ _ (lt-ltb h (book_in image).abducibles k)
 
 module _ (image : List ℕ) (h budget : ℕ) (area : List ℕ) where
+  turned_away : (n m : ℕ) → result_of image h budget (length area) ≡ turned n → m ≡ 0 → Admits image h budget area (Refused n m) area
+  turned_away n m e z = record { answer = ap (Refused n) z ∙ ap answer_of (sym e); work = ap (λ (x : Result). work_of x area) (sym e); meaning = λ b p. tt }
+
   -- refused before any search
-  pub admits_broken_lem : (n at : ℕ) (r : Asked) → Early image budget 0 (length area) r → r ≡ BrokenBook n at → Admits image h budget area (Broken n at) area
-  admits_broken_lem n at r early i =
-      let e = on_broken image h budget (length area) n at (subst (Early image budget 0 (length area)) i early) in
+  pub admits_refused : (e : NoAnswer) → Early image budget 0 (length area) (Err e) → Admits image h budget area (admission (Err e)) area
+  admits_refused (none.Broken f) early =
+      let e = on_broken image h budget (length area) (number_of f.refusal) f.place early in
       record { answer = ap answer_of (sym e); work = ap (λ (x : Result). work_of x area) (sym e); meaning = λ b p. tt }
-
-  turned_away : (n : ℕ) → result_of image h budget (length area) ≡ turned n → Admits image h budget area (Refused n 0) area
-  turned_away n e = record { answer = ap answer_of (sym e); work = ap (λ (x : Result). work_of x area) (sym e); meaning = λ b p. tt }
-
-  pub admits_turned : (n : ℕ) (r : Asked) → Early image budget 0 (length area) r → r ≡ Turned n → Admits image h budget area (Refused n 0) area
-  admits_turned n r early i = turned_away n (on_turned image h budget (length area) n (subst (Early image budget 0 (length area)) i early))
+  admits_refused (none.Refused r n) early = turned_away (number_of r) n (on_turned image h budget (length area) (number_of r) early.0) early.1
 
   module _ (a : Admitted' image budget 0 (length area)) where
     pub admits_unnamed : (book_in image).abducibles ≤ h → Admits image h budget area (Refused 23 0) area
-    admits_unnamed k = turned_away 23 (unnamed image h budget (length area) a k)
+    admits_unnamed k = turned_away 23 0 (unnamed image h budget (length area) a k) refl
 
     pub admits_sought : h < (book_in image).abducibles → (r : Admission) (area' : List ℕ) → Sought image h budget area r area' → Admits image h budget area r area'
     admits_sought k r area' s =

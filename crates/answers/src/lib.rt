@@ -1,25 +1,34 @@
 // The line that tells the answer of each call, and what it left in lent memory.
 #![tactic(auto)]
 
-use book::Reading;
 use cases::output;
-use engine::{Admission, Joined, Judgement, Listing, Verdict};
+use engine::{Admission, Judgement, NoAnswer, NoJudgement, Verdict};
 use std::io;
 
 pub fn read<R: Print>(rt: &R, image: &[u8]) -> io::Result<()> {
     match book::read(image) {
-        Reading::Accepted => output::line(rt, b"accepted"),
-        Reading::Refused(r, place) => output::broken(rt, r, place),
+        Ok(()) => println!(rt; "accepted"),
+        Err(fault) => println!(rt; "refused {fault}"),
     }
 }
 
 pub fn judge<R: Print>(rt: &R, image: &[u8], set: u64) -> io::Result<()> {
     match engine::judge(image, set) {
-        Judgement::Explains => output::line(rt, b"explains"),
-        Judgement::FalseGoal(p) => output::numbered(rt, b"goal ", p as u64),
-        Judgement::BrokenConstraint(p) => output::numbered(rt, b"constraint ", p as u64),
-        Judgement::Broken(r, place) => output::broken(rt, r, place),
-        Judgement::Refused(r) => output::numbered(rt, b"refused ", r as u64),
+        Ok(Judgement::Explains) => println!(rt; "explains"),
+        Ok(Judgement::FalseGoal(place)) => println!(rt; "goal {place}"),
+        Ok(Judgement::BrokenConstraint(place)) => println!(rt; "constraint {place}"),
+        Err(NoJudgement::Broken(fault)) => println!(rt; "refused {fault}"),
+        Err(NoJudgement::Refused(refusal)) => println!(rt; "refused {refusal}"),
+    }
+}
+
+// Why a search gave no answer; the line goes on.
+fn unanswered<R: Print>(rt: &R, no: NoAnswer) -> io::Result<()> {
+    match no {
+        NoAnswer::Broken(fault) => {
+            print!(rt; "refused {} nodes 0 at {}", fault.refusal, fault.place)
+        }
+        NoAnswer::Refused(refusal, nodes) => print!(rt; "refused {refusal} nodes {nodes}"),
     }
 }
 
@@ -31,9 +40,8 @@ pub fn list<R: Print>(
     work: &mut [u32],
 ) -> io::Result<()> {
     match engine::list(image, budget, sets, work) {
-        Listing::Listed(k, n) => output::searched(rt, b"listed ", k, n),
-        Listing::Broken(r, place) => output::unsearched(rt, r, place),
-        Listing::Refused(r, n) => output::searched(rt, b"refused ", r as u32, n),
+        Ok(listed) => print!(rt; "listed {} nodes {}", listed.count, listed.nodes),
+        Err(no) => unanswered(rt, no),
     }?;
     output::left(rt, sets, work)
 }
@@ -47,12 +55,11 @@ pub fn verdict<R: Print>(
     work: &mut [u32],
 ) -> io::Result<()> {
     match engine::verdict_on(image, hypothesis, budget, sets, work) {
-        Verdict::Unexplained(n) => output::count(rt, b"unexplained nodes ", n as u64),
-        Verdict::Needed(n) => output::count(rt, b"needed nodes ", n as u64),
-        Verdict::Possible(n) => output::count(rt, b"possible nodes ", n as u64),
-        Verdict::RuledOut(n) => output::count(rt, b"ruled out nodes ", n as u64),
-        Verdict::Broken(r, place) => output::unsearched(rt, r, place),
-        Verdict::Refused(r, n) => output::searched(rt, b"refused ", r as u32, n),
+        Ok(Verdict::Unexplained(nodes)) => print!(rt; "unexplained nodes {nodes}"),
+        Ok(Verdict::Needed(nodes)) => print!(rt; "needed nodes {nodes}"),
+        Ok(Verdict::Possible(nodes)) => print!(rt; "possible nodes {nodes}"),
+        Ok(Verdict::RuledOut(nodes)) => print!(rt; "ruled out nodes {nodes}"),
+        Err(no) => unanswered(rt, no),
     }?;
     output::left(rt, sets, work)
 }
@@ -65,20 +72,18 @@ pub fn admits<R: Print>(
     work: &mut [u32],
 ) -> io::Result<()> {
     match engine::admits(image, hypothesis, budget, work) {
-        Admission::Admitted(n) => output::count(rt, b"admitted nodes ", n as u64),
-        Admission::Excluded(n) => output::count(rt, b"excluded nodes ", n as u64),
-        Admission::Broken(r, place) => output::unsearched(rt, r, place),
-        Admission::Refused(r, n) => output::searched(rt, b"refused ", r as u32, n),
+        Ok(Admission::Admitted(nodes)) => print!(rt; "admitted nodes {nodes}"),
+        Ok(Admission::Excluded(nodes)) => print!(rt; "excluded nodes {nodes}"),
+        Err(no) => unanswered(rt, no),
     }?;
-    output::work_state(rt, work)?;
-    output::end(rt)
+    println!(rt; " work {}", output::state(work))
 }
 
 pub fn join<R: Print>(rt: &R, left: &[u64], right: &[u64], out: &mut [u64]) -> io::Result<()> {
     match engine::join(left, right, out) {
-        Joined::Count(k) => output::count(rt, b"joined ", k as u64),
-        Joined::Refused(r) => output::count(rt, b"refused ", r as u64),
+        Ok(count) => print!(rt; "joined {count}"),
+        Err(refusal) => print!(rt; "refused {refusal}"),
     }?;
     output::entries(rt, out)?;
-    output::end(rt)
+    println!(rt)
 }

@@ -21,20 +21,20 @@ pub const PLACES: usize = 16384;
 
 // What wanting a literal does while its atom is unmarked: it fails, it joins, it joins the set too; else the number is the first
 // way of its atom, or the first record to break.
-pub const FAILS: usize = 0;
+pub const FAILS: u32 = 0;
 
-pub const JOINS: usize = 1;
+pub const JOINS: u32 = 1;
 
-pub const JOINS_SET: usize = 2;
+pub const JOINS_SET: u32 = 2;
 
 // No mark; that of a literal is its number and 1.
-pub const NO_MARK: usize = 0;
+pub const NO_MARK: u32 = 0;
 
 // The first way of the record behind the last constraint: there is no task left.
-pub const NO_TASK: usize = 1;
+pub const NO_TASK: u32 = 1;
 
 // No way, no record: where a link leads nowhere.
-pub const NO_LINK: usize = 0;
+pub const NO_LINK: u32 = 0;
 
 // The end of an agenda that begins with a record.
 pub const NO_END: usize = 0;
@@ -71,10 +71,6 @@ pub const TRAIL: usize = WAYS
 // Frames: the trail's end, the set in two halves, the agenda, and the next way.
 pub const FRAME_WIDTH: usize = 7;
 
-pub const MOST_FRAMES: usize = MOST_CONSTRAINTS as usize
-    + MOST_ATOMS as usize
-    + MOST_CLAUSES as usize;
-
 pub const FRAMES: usize = TRAIL + TRAIL_WIDTH * MOST_ATOMS as usize;
 
 // 21: "the work area has fewer than 16,384 numbers of 32 bits" (paper 01, 8.1)
@@ -85,9 +81,5 @@ pub fn wipe(work: &mut [u32], n: usize)
     requires { n ≤ length work.old }
     ensures { work.new ≡ zeros n ++ drop n work.old }
 {
-    let mut i = 0;
-    while i < n {
-        work[i] = 0;
-        i += 1;
-    }
+    work[..n].fill(0);
 }

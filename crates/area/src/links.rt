@@ -14,10 +14,7 @@ use super::{
 fn shut(link: u32) -> u32
     ensures { result ≡ shut_of link }
 {
-    if link == JOINS as u32 {
-        return NO_LINK as u32;
-    }
-    link
+    if link == JOINS { NO_LINK } else { link }
 }
 
 // Links the way and the record of clause c to those that its head leads to, and its head to them.
@@ -41,9 +38,7 @@ pub fn link_clauses(work: &mut [u32], count: usize)
     requires { Unlinked work.old count }
     ensures { Linked work.old count work.new 0 }
 {
-    let mut c = count;
-    while 0 < c {
-        c -= 1;
+    for c in (0..count).rev() {
         link_clause(work, c);
     }
 }
@@ -59,5 +54,5 @@ pub fn lay_record(work: &mut [u32], k: usize, number: u32)
     work[cell + 1] = NO_END as u32;
     work[cell + 2] = (cell + CELL_WIDTH) as u32;
     work[record] = number;
-    work[record + 1] = NO_LINK as u32;
+    work[record + 1] = NO_LINK;
 }

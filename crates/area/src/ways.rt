@@ -14,12 +14,10 @@ pub fn lay_literals(work: &mut [u32], from: usize, to: usize, even: u32)
     requires { (from ≤ to) × (to ≤ limits.atoms) × Long work.old }
     ensures { LiteralsLaid work.old from to even work.new }
 {
-    let mut p = from;
-    while p < to {
+    for p in from..to {
         let y = LITERALS + 2 * p;
         work[y] = even;
-        work[y + 1] = JOINS as u32;
-        p += 1;
+        work[y + 1] = JOINS;
     }
 }
 
@@ -28,13 +26,11 @@ pub fn list_of(image: &[u8], from: usize, count: usize) -> u32
     requires { Literals image.now from count }
     ensures { Listed image.now (λ j. 0) result (lits_at image.now from count) }
 {
-    if count == 0 {
-        return NO_LIST as u32;
+    match count {
+        0 => NO_LIST as u32,
+        1 => field_at(image, from),
+        _ => (from + PLACES * count) as u32,
     }
-    if count == 1 {
-        return field_at(image, from);
-    }
-    (from + PLACES * count) as u32
 }
 
 // The opposites of `count` literals from `first` on, as ways from `start` on, before the ways from `next` on; the first way of all.
@@ -50,9 +46,7 @@ pub fn lay_opposites(
     ensures { OppositesLaid image.now work.old start first count next work.new result }
 {
     let mut link = next;
-    let mut i = count;
-    while 0 < i {
-        i -= 1;
+    for i in (0..count).rev() {
         let way = start + WAY_WIDTH * i;
         work[way] = field_at(image, first + 2 * i) ^ 1;
         work[way + 1] = link;
@@ -66,10 +60,7 @@ pub fn link_to(way: usize, from: usize, end: usize) -> u32
     requires { way ≤ trail }
     ensures { result ≡ link_to way from end }
 {
-    if from < end {
-        return way as u32;
-    }
-    NO_LINK as u32
+    if from < end { way as u32 } else { NO_LINK }
 }
 
 // The alternatives from `first` to `end`, as ways from `start` on; the place behind them.

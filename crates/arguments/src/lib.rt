@@ -1,10 +1,12 @@
-// What a program is asked for: the words and numbers that its arguments are, and the bytes of the files that they name. What
-// cannot be taken is told at once, in a line of its own, and the answer is not `ok`:
+// What a program is asked for: the words and numbers that its arguments are, and the bytes of the files that they name. Why there is no answer
+// is told in these words:
 //
+//   unknown       there is no such job
 //   unfit P       argument P is missing, or is no number of its range
 //   unopened P    the file that argument P names cannot be opened; a name that is not UTF-8 is not tried
 //   unread P      it cannot be read
 //   overlong P    it has more bytes than its job takes
+//   unlisted      standard input does not have the two lists
 #![tactic(auto)]
 
 pub mod files;
@@ -12,36 +14,51 @@ pub mod numbers;
 
 ghost use Rattle.std.specs.Prelude.{◌≤◌, length};
 
-use cases::output;
 use std::env::FillError;
-use std::io;
 use std::rt::Env;
+use std::{fmt, io};
 
-// The longest word that names a job.
-const WORD: usize = 16;
+// Why a job has no answer: as above, or a line cannot be written.
+#[derive(Clone, Copy, Debug)]
+pub enum NoJob {
+    Unknown,
+    Unfit(usize),
+    Unopened(usize),
+    Unread(usize),
+    Overlong(usize),
+    Unlisted,
+    Unwritten(io::Error),
+}
 
-// The argument, put at the front of the buffer, and how long it is: 0 where it is missing, or longer than the buffer.
-pub(crate) fn argument<R: Env>(rt: &R, place: usize, word: &mut [u8]) -> usize
-    ensures { result ≤ length word.new }
-{
-    match rt.arg(place, word) {
-        Ok(n) => n,
-        Err(_) => 0,
+impl From<io::Error> for NoJob {
+    fn from(error: io::Error) -> NoJob {
+        NoJob::Unwritten(error)
     }
 }
 
-// Whether the first argument is this word.
-pub fn asked<R: Env>(rt: &R, name: &[u8]) -> bool {
-    let mut word = [0u8; WORD];
-    let n = argument(rt, 1, &mut word);
-    &word[..n] == name
+impl fmt::Display for NoJob {
+    fn fmt<W: fmt::Write>(&self, f: &mut fmt::Formatter<W>) -> fmt::Result {
+        match self {
+            NoJob::Unknown => write!(f, "unknown"),
+            NoJob::Unfit(place) => write!(f, "unfit {place}"),
+            NoJob::Unopened(place) => write!(f, "unopened {place}"),
+            NoJob::Unread(place) => write!(f, "unread {place}"),
+            NoJob::Overlong(place) => write!(f, "overlong {place}"),
+            NoJob::Unlisted => write!(f, "unlisted"),
+            NoJob::Unwritten(error) => write!(f, "{error}"),
+        }
+    }
+}
+
+// The argument, at the front of the buffer: nothing where it is missing, or longer than the buffer.
+pub fn argument<'a, R: Env>(rt: &R, place: usize, buffer: &'a mut [u8]) -> &'a [u8]
+    ensures { length result.now ≤ length buffer.old }
+{
+    let n = rt.arg(place, buffer).unwrap_or(0);
+    &buffer[..n]
 }
 
 // Whether there is an argument at this place.
 pub fn is_given<R: Env>(rt: &R, place: usize) -> bool {
     !matches!(rt.arg(place, &mut []), Err(FillError::NotPresent))
-}
-
-pub fn unfit<R: Print>(rt: &R, place: usize) -> io::Result<()> {
-    output::numbered(rt, b"unfit ", place as u64)
 }

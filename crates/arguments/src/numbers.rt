@@ -1,108 +1,41 @@
 // Numbers written as decimal digits.
-ghost use Rattle.std.specs.Prelude.{◌≤◌, IfOk};
+ghost use Rattle.std.specs.Prelude.{◌≤◌, length, IfOk};
 
-use crate::{argument, unfit};
-use cases::input::{Length, Number, Small};
-use std::io;
+use crate::{NoJob, argument};
 use std::rt::Env;
 
 // The digits of the largest number of 64 bits.
 const DIGITS: usize = 20;
 
-const BASE: u64 = 10;
-
-const LARGEST_SMALL: u64 = 4_294_967_295;
-
-fn no_number() -> Number {
-    Number {
-        ok: false,
-        value: 0,
+// The number that these digits write, if it has 64 bits.
+fn written(word: &[u8]) -> Option<u64> {
+    if !word.iter().all(|digit| digit.is_ascii_digit()) {
+        return None;
     }
-}
-
-fn wide(x: u8) -> u64
-    ensures { result ≤ x }
-{
-    x as u64
-}
-
-// The number with this digit behind it, if it is one and the number stays within 64 bits.
-fn appended(value: u64, digit: u8) -> Number {
-    if digit < b'0' {
-        return no_number();
-    }
-    if b'9' < digit {
-        return no_number();
-    }
-    let unit = wide(digit - b'0');
-    if (u64::MAX - unit) / BASE < value {
-        return no_number();
-    }
-    Number {
-        ok: true,
-        value: BASE * value + unit,
-    }
-}
-
-// The number that these digits write.
-fn written(word: &[u8]) -> Number {
-    let mut number = Number {
-        ok: word.len() > 0,
-        value: 0,
-    };
-    for digit in word {
-        if number.ok {
-            number = appended(number.value, *digit);
-        }
-    }
-    number
-}
-
-fn told<R: Print>(rt: &R, number: Number, place: usize) -> io::Result<Number> {
-    if !number.ok {
-        unfit(rt, place)?;
-    }
-    Ok(number)
+    str::from_utf8(word).ok()?.parse().ok()
 }
 
 // A set: a number of 64 bits.
-pub fn take_set<R: Env + Print>(rt: &R, place: usize) -> io::Result<Number> {
-    let mut word = [0u8; DIGITS];
-    let n = argument(rt, place, &mut word);
-    let set = written(&word[..n]);
-    told(rt, set, place)
+pub fn take_set<R: Env>(rt: &R, place: usize) -> Result<u64, NoJob> {
+    let mut buffer = [0; DIGITS];
+    written(argument(rt, place, &mut buffer)).ok_or(NoJob::Unfit(place))
 }
 
 // A budget or a hypothesis: a number of 32 bits.
-pub fn take_number<R: Env + Print>(rt: &R, place: usize) -> io::Result<Small> {
+pub fn take_number<R: Env>(rt: &R, place: usize) -> Result<u32, NoJob> {
     let number = take_set(rt, place)?;
-    if LARGEST_SMALL < number.value {
-        unfit(rt, place)?;
-        return Ok(Small {
-            ok: false,
-            value: 0,
-        });
-    }
-    Ok(Small {
-        ok: number.ok,
-        value: number.value as u32,
-    })
+    u32::try_from(number).map_err(|_| NoJob::Unfit(place))
 }
 
-// A room of as many entries, or of `most` if it is larger: the engine refuses both alike.
-pub fn take_room<R: Env + Print>(rt: &R, place: usize, most: usize) -> io::Result<Length>
-    ensures { IfOk result (λ room. room.value ≤ most) }
+// A room of as many entries, or the whole buffer if it has fewer: the engine refuses both alike.
+pub fn take_room<'a, T, R: Env>(
+    rt: &R,
+    place: usize,
+    buffer: &'a mut [T],
+) -> Result<&'a mut [T], NoJob>
+    ensures { IfOk result (λ room. length room.now ≤ length buffer.old) }
 {
-    let number = take_set(rt, place)?;
-    let asked = number.value as usize;
-    if most < asked {
-        return Ok(Length {
-            ok: number.ok,
-            value: most,
-        });
-    }
-    Ok(Length {
-        ok: number.ok,
-        value: asked,
-    })
+    let asked = take_set(rt, place)? as usize;
+    let room = asked.min(buffer.len());
+    Ok(&mut buffer[..room])
 }

@@ -1,35 +1,45 @@
 -- The reader's promise fixes its answer; the ways to an answer, and what an answer says.
 -- Assumes nothing.
-use Rattle.std.specs.Prelude.{ℕ, ◌≡◌, refl, Bool, true, false, List}
+use Rattle.std.specs.Prelude.{ℕ, ◌≡◌, refl, Bool, true, false, List, Result, Ok, Err, ⊤}
 use Rattle.std.proofs.Math.Path.{sym, ap}
 use Rattle.std.proofs.Common.{ap₂, ◌∙◌, arith}
 use Rattle.base.specs.paper.Bools.{choose}
 use Rattle.image.specs.paper.Book.{Book}
-use Rattle.image.specs.paper.Walk.{found, fault, Finding, fine}
+use Rattle.image.specs.paper.Refusals.{number_of}
+use Rattle.image.specs.paper.Walk.{found, fault, Finding, fine, wrong}
 use Rattle.image.specs.paper.Faults.{limits}
 use Rattle.image.specs.paper.Loops.{loop_free}
 use Rattle.image.specs.paper.Decode.{whole, wrong_front, front_place, loop_place, Decoded, accepted, refused, in_order, decode}
-use Rattle.faults.specs.Taking.{finding, finding_wrong}
-use Rattle.book.specs.declared.Reading.{Reading}
-use Rattle.book.specs.declared.Reading.TheVariants.{Accepted, Refused}
+use Rattle.image.specs.declared.refusals.Refusal.{Refusal}
+use Rattle.image.specs.declared.refusals.Fault.{Fault}
+use Rattle.image.specs.RefusalLaws.{number_tells}
 use Rattle.image.specs.paper.Front.{atoms_at}
 use Rattle.image.specs.Accepted.{IsBook, is_book}
-use Rattle.book.specs.paper.Reading.{reading_of, Reads}
+use Rattle.book.specs.paper.Reading.{Reading, Accepted, Refused, reading, reading_of, Reads}
 
 -- two answers that meet the promise are equal
 pub reads_unique : (s : List ℕ) (q r : Reading) → Reads s q → Reads s r → q ≡ r
 reads_unique s q r h k = h.answer ∙ sym k.answer
 
+-- what `read` returns is told by its reading, so two of its answers that meet the promise are equal too
+reading_tells : (q r : Result ⊤ Fault) → reading q ≡ reading r → q ≡ r
+reading_tells (Ok x) (Ok y) e = refl
+reading_tells (Ok x) (Err d) e = cc
+reading_tells (Err c) (Ok y) e = cc
+reading_tells (Err c) (Err d) e =
+    let number : number_of c.refusal ≡ number_of d.refusal = cc in
+    let place : c.place ≡ d.place = cc in
+    ap₂ (λ (r : Refusal) (p : ℕ). Err (record { refusal = r; place = p })) (number_tells _ _ number) place
+
+pub results_unique : (s : List ℕ) (q r : Result ⊤ Fault) → Reads s (reading q) → Reads s (reading r) → q ≡ r
+results_unique s q r h k = reading_tells q r (reads_unique s _ _ h k)
+
 -- ---- the ways to an answer
 
-pub refused_front : (s : List ℕ) (n at : ℕ) → (n ≡ 0 → ⊥) → finding n ≡ wrong_front s → at ≡ front_place s n → Reads s (Refused n at)
+pub refused_front : (s : List ℕ) (n at : ℕ) → wrong_front s ≡ wrong n → at ≡ front_place s n → Reads s (Refused n at)
 unfolding decode in_order
-refused_front s n at h e p =
-    record {
-      answer =
-          ap (Refused n) p
-          ∙ sym (ap (λ (f : Finding). reading_of (in_order s f (whole s limits atoms_at))) (sym e ∙ finding_wrong n h));
-    }
+refused_front s n at e p =
+    record { answer = ap (Refused n) p ∙ sym (ap (λ (f : Finding). reading_of (in_order s f (whole s limits atoms_at))) e) }
 
 module _ (s : List ℕ) (e : wrong_front s ≡ fine) where
   pub refused_walk : (n at : ℕ) → whole s limits atoms_at ≡ fault n at → Reads s (Refused n at)

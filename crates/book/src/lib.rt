@@ -2,32 +2,21 @@
 // work on the image as lent, and crate image says where in it each part of an accepted book stands.
 #![tactic(auto)]
 
-ghost use Rattle.book.specs.paper.Reading.{Reads};
+ghost use Rattle.book.specs.paper.Reading.{reading, Reads};
 
-use faults::fields::Taken;
+use image::refusals::{Fault, Refusal};
 
-#[derive(Drop)]
-pub enum Reading {
-    Accepted,
-    Refused(u8, usize),
-}
-
-// Whether the image is a rule book, or the number under which it is refused and the place of its fault.
-pub fn read(image: &[u8]) -> Reading
-    ensures { Reads image.now result }
+// Whether the image is a rule book, or its fault.
+pub fn read(image: &[u8]) -> Result<(), Fault>
+    ensures { Reads image.now (reading result) }
 {
-    let front = walk::whole::wrong_front(image);
-    if front != 0 {
-        return Reading::Refused(front, walk::whole::front_place(image, front));
+    walk::whole::take_front(image)?;
+    walk::whole::take_whole(image)?;
+    if !loops::is_loop_free(image) {
+        return Err(Fault {
+            refusal: Refusal::Loop,
+            place: depends::place(image),
+        });
     }
-    match walk::whole::take_whole(image) {
-        Taken::Fault(n, place) => Reading::Refused(n, place),
-        Taken::Found(_, _) => {
-            if loops::is_loop_free(image) {
-                Reading::Accepted
-            } else {
-                Reading::Refused(9, depends::place(image))
-            }
-        }
-    }
+    Ok(())
 }

@@ -1,275 +1,144 @@
-// The cases' numbers, images and lists, taken from a reader. What the reader has not, or cannot read, is not `ok`.
+// The cases' numbers, images and lists, taken from a reader. An image, a list or a room stands at the front of a buffer that is lent for it.
 
-ghost use Rattle.std.specs.Prelude.{◌≤◌, ◌≡◌, length, IfOk};
-ghost use Rattle.cases.specs.Buffers.{image_room, group_room, list_entries, area_numbers};
+ghost use Rattle.std.specs.Prelude.{◌≤◌, length, IfOk};
 
 use std::io;
 use std::io::Read;
 
-#[derive(Drop)]
-pub struct Number {
-    pub ok: bool,
-    pub value: u64,
-}
-
-#[derive(Drop)]
-pub struct Small {
-    pub ok: bool,
-    pub value: u32,
-}
-
-#[derive(Drop)]
-pub struct Length {
-    pub ok: bool,
-    pub value: usize,
-}
-
-#[derive(Drop)]
-pub struct Allowance {
-    pub ok: bool,
-    pub budget: u32,
-    pub room: usize,
-    pub space: usize,
-}
+// What the reader has not, or cannot read, or what is more than a case may name.
+#[derive(Clone, Copy, Debug, PartialEq, Eq)]
+pub struct Malformed;
 
 // The most that a case may name: bytes of an image and of a group's record, entries of a list, numbers of a work area.
 const IMAGE: usize = 16384;
 
 const GROUP: usize = 1000;
 
-pub const ENTRIES: usize = 1100;
+const ENTRIES: usize = 1100;
 
-pub const WORK: usize = 20000;
+const WORK: usize = 20000;
 
 // What every list entry and every work number is before a call.
 const ENTRY: u64 = 7;
 
 pub const NUMBER: u32 = 9;
 
-pub fn image_buffer() -> [u8; IMAGE]
-    ensures { image_room ≡ length result }
-{
+pub fn image_buffer() -> [u8; IMAGE] {
     [0; IMAGE]
 }
 
-pub fn group_buffer() -> [u8; GROUP]
-    ensures { group_room ≡ length result }
-{
+pub fn group_buffer() -> [u8; GROUP] {
     [0; GROUP]
 }
 
-pub fn list_buffer() -> [u64; ENTRIES]
-    ensures { list_entries ≡ length result }
-{
+pub fn list_buffer() -> [u64; ENTRIES] {
     [ENTRY; ENTRIES]
 }
 
-pub fn work_buffer() -> [u32; WORK]
-    ensures { area_numbers ≡ length result }
-{
+pub fn work_buffer() -> [u32; WORK] {
     [NUMBER; WORK]
 }
 
-fn missing() -> Number
-    ensures { result.value ≤ 0 }
-{
-    Number {
-        ok: false,
-        value: 0,
-    }
+fn take_bytes<const N: usize, I: Read>(input: &mut I) -> Result<[u8; N], Malformed> {
+    let mut bytes = [0; N];
+    input.read_exact(&mut bytes).map_err(|_| Malformed)?;
+    Ok(bytes)
 }
 
-fn wide(x: u8) -> u64
-    ensures { result ≤ 255 }
-{
-    x as u64
+pub fn take_u8<I: Read>(input: &mut I) -> Result<u8, Malformed> {
+    Ok(u8::from_be_bytes(take_bytes(input)?))
 }
 
-pub fn take_u8<I: Read>(input: &mut I) -> Number
-    ensures { result.value ≤ 255 }
-{
-    let mut buf = [0u8; 1];
-    if input.read_exact(&mut buf).is_err() {
-        return missing();
-    }
-    Number {
-        ok: true,
-        value: wide(buf[0]),
-    }
+fn take_u16<I: Read>(input: &mut I) -> Result<u16, Malformed> {
+    Ok(u16::from_be_bytes(take_bytes(input)?))
 }
 
-fn take_u16<I: Read>(input: &mut I) -> Number
-    ensures { result.value ≤ 65535 }
-{
-    let high = take_u8(input);
-    let low = take_u8(input);
-    if !low.ok {
-        return missing();
-    }
-    Number {
-        ok: high.ok,
-        value: 256 * high.value + low.value,
-    }
+// A budget or a hypothesis.
+pub fn take_u32<I: Read>(input: &mut I) -> Result<u32, Malformed> {
+    Ok(u32::from_be_bytes(take_bytes(input)?))
 }
 
-pub fn take_u32<I: Read>(input: &mut I) -> Number
-    ensures { result.value ≤ 4294967295 }
-{
-    let high = take_u16(input);
-    let low = take_u16(input);
-    if !low.ok {
-        return missing();
-    }
-    Number {
-        ok: high.ok,
-        value: 65536 * high.value + low.value,
-    }
+// A set.
+pub fn take_u64<I: Read>(input: &mut I) -> Result<u64, Malformed> {
+    Ok(u64::from_be_bytes(take_bytes(input)?))
 }
 
-pub fn take_u64<I: Read>(input: &mut I) -> Number {
-    let high = take_u32(input);
-    let low = take_u32(input);
-    if !low.ok {
-        return missing();
+// The first n of the buffer, which is as long as the most that a case may name.
+fn front<T>(buffer: &mut [T], n: usize) -> Result<&mut [T], Malformed>
+    ensures { IfOk result (λ front. length front.now ≤ length buffer.old) }
+{
+    if buffer.len() < n {
+        return Err(Malformed);
     }
-    Number {
-        ok: high.ok,
-        value: 4294967296 * high.value + low.value,
-    }
+    Ok(&mut buffer[..n])
 }
 
-fn no_length() -> Length
-    ensures { result.value ≤ 0 }
+// As many bytes as the length says.
+fn filled<'a, I: Read>(input: &mut I, n: usize, buffer: &'a mut [u8]) -> Result<&'a [u8], Malformed>
+    ensures { IfOk result (λ filled. length filled.now ≤ length buffer.old) }
 {
-    Length {
-        ok: false,
-        value: 0,
-    }
-}
-
-// As many bytes as the number says, put at the front of the buffer, and how many they are.
-fn take_bytes<I: Read>(input: &mut I, n: Number, bytes: &mut [u8]) -> Length
-    ensures { result.value ≤ length bytes.old }
-{
-    if !n.ok {
-        return no_length();
-    }
-    let len = n.value as usize;
-    if bytes.len() < len {
-        return no_length();
-    }
-    if input.read_exact(&mut bytes[..len]).is_err() {
-        return no_length();
-    }
-    Length {
-        ok: true,
-        value: len,
-    }
+    let bytes = front(buffer, n)?;
+    input.read_exact(bytes).map_err(|_| Malformed)?;
+    Ok(bytes)
 }
 
 // An image, or a text, with a length of four bytes.
-pub fn take_image<I: Read>(input: &mut I, image: &mut [u8]) -> Length
-    ensures { result.value ≤ length image.old }
+pub fn take_image<'a, I: Read>(input: &mut I, buffer: &'a mut [u8]) -> Result<&'a [u8], Malformed>
+    ensures { IfOk result (λ image. length image.now ≤ length buffer.old) }
 {
-    let n = take_u32(input);
-    take_bytes(input, n, image)
+    let n = take_u32(input)?;
+    filled(input, n as usize, buffer)
 }
 
 // A group's record, with a length of two bytes.
-pub fn take_group<I: Read>(input: &mut I, group: &mut [u8]) -> Length
-    ensures { result.value ≤ length group.old }
+pub fn take_group<'a, I: Read>(input: &mut I, buffer: &'a mut [u8]) -> Result<&'a [u8], Malformed>
+    ensures { IfOk result (λ group. length group.now ≤ length buffer.old) }
 {
-    let n = take_u16(input);
-    take_bytes(input, n, group)
+    let n = take_u16(input)?;
+    filled(input, usize::from(n), buffer)
 }
 
-// The number as a length of at most `most`.
-fn at_most(n: Number, most: usize) -> Length
-    ensures { result.value ≤ most }
+// A room for a list, with a length of two bytes.
+pub fn take_room<'a, I: Read>(
+    input: &mut I,
+    list: &'a mut [u64],
+) -> Result<&'a mut [u64], Malformed>
+    ensures { IfOk result (λ room. length room.now ≤ length list.old) }
 {
-    let len = n.value as usize;
-    if !n.ok {
-        return no_length();
-    }
-    if most < len {
-        return no_length();
-    }
-    Length {
-        ok: true,
-        value: len,
-    }
+    let n = take_u16(input)?;
+    front(list, usize::from(n))
 }
 
-// A room of at most `most` entries.
-pub fn take_room<I: Read>(input: &mut I, most: usize) -> Length
-    ensures { result.value ≤ most }
+// A work area, or a room for bytes, with a length of four bytes.
+pub fn take_area<'a, T, I: Read>(input: &mut I, area: &'a mut [T]) -> Result<&'a mut [T], Malformed>
+    ensures { IfOk result (λ taken. length taken.now ≤ length area.old) }
 {
-    let n = take_u16(input);
-    at_most(n, most)
+    let n = take_u32(input)?;
+    front(area, n as usize)
 }
 
-// A length of at most `most`, of four bytes.
-pub fn take_length<I: Read>(input: &mut I, most: usize) -> Length
-    ensures { result.value ≤ most }
+// A count and as many sets.
+pub fn take_list<'a, I: Read>(input: &mut I, buffer: &'a mut [u64]) -> Result<&'a [u64], Malformed>
+    ensures { IfOk result (λ list. length list.now ≤ length buffer.old) }
 {
-    let n = take_u32(input);
-    at_most(n, most)
+    let list = take_room(input, buffer)?;
+    for entry in list.iter_mut() {
+        *entry = take_u64(input)?;
+    }
+    Ok(list)
 }
 
-// A budget or a hypothesis, of four bytes.
-pub fn take_number<I: Read>(input: &mut I) -> Small {
-    let n = take_u32(input);
-    Small {
-        ok: n.ok,
-        value: n.value as u32,
-    }
-}
-
-// Budget, room and work length of a search.
-pub fn take_means<I: Read>(input: &mut I) -> Allowance
-    ensures { (result.room ≤ list_entries) × (result.space ≤ area_numbers) }
-{
-    let budget = take_number(input);
-    let room = take_room(input, ENTRIES);
-    let space = take_length(input, WORK);
-    Allowance {
-        ok: budget.ok && (room.ok && space.ok),
-        budget: budget.value,
-        room: room.value,
-        space: space.value,
-    }
-}
-
-// A count and as many sets, put at the front of the list.
-pub fn take_list<I: Read>(input: &mut I, list: &mut [u64]) -> Length
-    ensures { result.value ≤ length list.old }
-{
-    let room = take_room(input, list.len());
-    if !room.ok {
-        return no_length();
-    }
-    let n = room.value;
-    for entry in &mut list[..n] {
-        let set = take_u64(input);
-        if !set.ok {
-            return no_length();
-        }
-        *entry = set.value;
-    }
-    Length { ok: true, value: n }
-}
-
-// All that the reader has, put at the front of the buffer, as far as that goes, and how many bytes they are.
-pub fn take_all<I: Read>(input: &mut I, bytes: &mut [u8]) -> io::Result<usize>
-    ensures { IfOk result (λ n. n ≤ length bytes.old) }
+// All that the reader has, as far as the buffer goes.
+pub fn take_all<'a, I: Read>(input: &mut I, buffer: &'a mut [u8]) -> io::Result<&'a [u8]>
+    ensures { IfOk result (λ bytes. length bytes.now ≤ length buffer.old) }
 {
     let mut n = 0;
-    while n < bytes.len() {
-        let more = input.read(&mut bytes[n..])?;
+    while n < buffer.len() {
+        let more = input.read(&mut buffer[n..])?;
         if more == 0 {
             break;
         }
         n += more;
     }
-    Ok(n)
+    Ok(&buffer[..n])
 }

@@ -1,15 +1,18 @@
 -- The laws of `clean`: the promise fixes the result, no group's answer depends on another's, and a deletion says what the office needs. Then the
 -- ways to the promise.
 -- Assumes nothing.
-use Rattle.std.specs.Prelude.{ℕ, ◌+◌, ◌^◌, ◌≤◌, ◌<◌, ◌≡◌, true, length, take, drop}
+use Rattle.std.specs.Prelude.{ℕ, ◌+◌, ◌^◌, ◌≤◌, ◌<◌, ◌≡◌, refl, true, Result, Ok, Err, length, take, drop}
 use Rattle.std.proofs.Common.{sym, ◌∙◌, take_at, leb-true}
 use Rattle.std.proofs.Math.Path.{ap, ap₂, subst}
 use mathlib.Core.List.{List}
 use Rattle.base.specs.paper.Lists.{all}
 use Rattle.base.specs.paper.Members.{has}
 use Rattle.image.specs.paper.Book.{Book}
+use Rattle.image.specs.declared.refusals.Refusal.{Refusal as Why}
+use Rattle.image.specs.paper.Refusals.{number_of}
+use Rattle.image.specs.RefusalLaws.{number_tells}
 use Rattle.image.specs.paper.Faults.{limits}
-use Rattle.image.specs.paper.Walk.{Finding, fine}
+use Rattle.image.specs.paper.Walk.{Finding, fine, wrong}
 use Rattle.image.specs.paper.Decode.{Decoded, accepted, decode}
 use Rattle.image.specs.Accepted.{book_in, book_in_lem, is_book}
 use Rattle.image.specs.Encode.{longest_image, longest_image_lem}
@@ -18,10 +21,11 @@ use Rattle.engine.specs.paper.Verdict.{Explainable}
 use Rattle.groups.specs.paper.Group.{observed, is_defined, with_facts, group_image}
 use Rattle.groups.proofs.GroupLaws.{group_of_image}
 use Rattle.groups.specs.Writes.{Writable, WroteGroup}
-use Rattle.cleaner.specs.declared.Cleaning.{Cleaning}
-use Rattle.cleaner.specs.declared.Cleaning.TheVariants.{Deleted, Refused}
-use Rattle.cleaner.specs.paper.Cleaning.{Ending, turned, ending_by, ending_of, ending, answer_of, image_of, list_of, area_of, Means, Cleans}
-use Rattle.cleaner.specs.Refusals.{refusal_number}
+use Rattle.cleaner.specs.declared.Sorted.{Sorted}
+use Rattle.cleaner.specs.declared.Cleaning.{Cleaning as Found}
+use Rattle.cleaner.specs.declared.Cleaning.TheVariants as found
+use Rattle.cleaner.specs.paper.Cleaning.{Cleaning, Deleted, Refused, cleaning, Ending, turned, ending_by, ending_of, ending, answer_of, image_of, list_of, area_of, Means, Cleans}
+use Rattle.cleaner.specs.Refusals.{first_of}
 use Rattle.cleaner.proofs.RefusalLaws.{Passed, turned_by}
 use Rattle.cleaner.specs.Looking.{Ripe, Looked}
 use Rattle.cleaner.proofs.LookingLaws.{ending_means}
@@ -32,6 +36,25 @@ pub cleans_unique : (book group : List ℕ) (hypotheses budget : ℕ) (list area
     → (r ≡ q) × (list₁ ≡ list₂) × (area₁ ≡ area₂)
 cleans_unique book group hypotheses budget list area r q list₁ area₁ list₂ area₂ a b =
     (a.answer ∙ sym b.answer, a.sets ∙ sym b.sets, a.work ∙ sym b.work)
+
+-- what `clean` returns is told by its answer, so two of its results that meet the promise are equal too
+cleaning_tells : (q r : Result Found Why) → cleaning q ≡ cleaning r → q ≡ r
+cleaning_tells (Ok found.Deleted) (Ok found.Deleted) e = refl
+cleaning_tells (Ok found.Deleted) (Ok (found.Held t)) e = cc
+cleaning_tells (Ok found.Deleted) (Err b) e = cc
+cleaning_tells (Ok (found.Held s)) (Ok found.Deleted) e = cc
+cleaning_tells (Ok (found.Held s)) (Ok (found.Held t)) e = let same : s ≡ t = cc in ap (λ (u : Sorted). Ok (found.Held u)) same
+cleaning_tells (Ok (found.Held s)) (Err b) e = cc
+cleaning_tells (Err a) (Ok found.Deleted) e = cc
+cleaning_tells (Err a) (Ok (found.Held t)) e = cc
+cleaning_tells (Err a) (Err b) e = let same : number_of a ≡ number_of b = cc in ap Err (number_tells a b same)
+
+pub cleaned_unique : (book group : List ℕ) (hypotheses budget : ℕ) (list area : List ℕ) (q r : Result Found Why) (list₁ area₁ list₂ area₂ : List ℕ)
+    → Cleans book group hypotheses budget list area (cleaning q) list₁ area₁ → Cleans book group hypotheses budget list area (cleaning r) list₂ area₂
+    → (q ≡ r) × (list₁ ≡ list₂) × (area₁ ≡ area₂)
+cleaned_unique book group hypotheses budget list area q r list₁ area₁ list₂ area₂ a b =
+    let same = cleans_unique book group hypotheses budget list area (cleaning q) (cleaning r) list₁ area₁ list₂ area₂ a b in
+    (cleaning_tells q r same.0, same.1, same.2)
 
 -- "Each group is answered as if it were the only one": whatever other groups left in list and work area, the answer is the same, by book,
 -- record, hypotheses, budget and the two lengths alone.
@@ -51,12 +74,12 @@ deleted_only book group hypotheses budget list area list' area' c b e = c.meanin
 
 module _ (book group : List ℕ) (hypotheses budget : ℕ) (list area : List ℕ) where
   -- refused before any verdict
-  pub cleans_turned : (n : ℕ) → n ≡ refusal_number (decode book) group hypotheses budget (length list) (length area) → (n ≡ 0 → ⊥)
+  pub cleans_turned : (n : ℕ) → wrong n ≡ first_of (decode book) group hypotheses budget (length list) (length area)
       → Cleans book group hypotheses budget list area (Refused n) list area
   unfolding ending
-  cleans_turned n e h =
+  cleans_turned n e =
       let t : ending book group hypotheses budget (length list) (length area) ≡ turned n =
-      turned_by (decode book) group hypotheses budget (length list) (length area) (λ z. h (e ∙ z)) ∙ ap turned (sym e) in
+      turned_by (decode book) group hypotheses budget (length list) (length area) n (sym e) in
       record {
         answer = ap (answer_of hypotheses) (sym t);
         sets = ap (list_of (image_of (decode book) group) budget list area) (sym t);
@@ -92,7 +115,6 @@ module _ (book group : List ℕ) (hypotheses budget : ℕ) (list area : List ℕ
         let same : book_in book ≡ b = book_in_lem book b is in
         record {
           book = is_book book b is;
-          formed = passed.sound.formed;
           known = subst (λ (c : Book). all (is_defined c) (observed group) ≡ true) (sym same) passed.sound.known;
           few = subst (λ (c : Book). length c.clauses + length (observed group) ≤ limits.clauses) (sym same) (leb-true _ _ passed.sound.few);
           room = long;

@@ -23,21 +23,18 @@ use Rattle.searching.specs.paper.Seek.{Seeking, admitted, excluded, spent, sough
 use Rattle.searching.proofs.Main.{listed}
 use Rattle.lister.specs.paper.Promise.{Result, searched, result_of, answer_of, sets_of, work_of, Lists}
 use Rattle.lister.specs.PromiseLaws.{Admitted, admitted_result}
-use Rattle.lister.specs.declared.Listing.{Listing}
-use Rattle.lister.specs.declared.Listing.TheVariants as listing
-use Rattle.engine.specs.declared.Verdict.{Verdict}
-use Rattle.engine.specs.declared.Verdict.TheVariants.{Needed, Possible, Refused}
+use Rattle.lister.specs.paper.Promise.{Listing}
+use Rattle.lister.specs.paper.Promise as listing
+use Rattle.engine.specs.paper.Verdict.{Verdict, Needed, Possible, Refused}
 use Rattle.engine.specs.paper.Verdict.{verdict_result, second_of, second, unsettled, by_second, decided, verdict_of, kept, verdict_sets, Refusal, Says}
 use Rattle.engine.specs.VerdictLaws.{by_listing_lem, decided_says}
 use Rattle.cleaner.specs.declared.Sorted.{Sorted}
-use Rattle.cleaner.specs.declared.Cleaning.{Cleaning}
-use Rattle.cleaner.specs.declared.Cleaning.TheVariants as cleaning
 use Rattle.cleaner.specs.declared.listed.Listed.{Listed}
 use Rattle.cleaner.specs.Told.{Tells}
-use Rattle.cleaner.specs.paper.Cleaning.{ascending, unsorted, number, noted, Ending, turned, all_sorted, stopped, after, in_turn, verdict_on, list_of, area_of, Means}
+use Rattle.cleaner.specs.paper.Cleaning.{Cleaning, ascending, unsorted, number, noted, Ending, turned, all_sorted, stopped, after, in_turn, verdict_on, list_of, area_of, Means}
 use Rattle.cleaner.specs.paper.Cleaning as paper
 use Rattle.cleaner.proofs.Turns.{ascending_member, some_member, ends_sorted, ends_stopped, never_turned, in_turn_same, sorted_means}
-use Rattle.cleaner.specs.Sorting.{Ready, by_list, by_listing, left_by, Concluded}
+use Rattle.cleaner.specs.Sorting.{Wiped, by_list, by_listing, left_by, Concluded}
 use Rattle.cleaner.specs.Looking.{Looked, Ripe, ending_on}
 
 -- ---- what a verdict by a list leaves
@@ -62,14 +59,14 @@ kept_listing h (x ∷ l) n o listing old r = go (all (λ (d : ℕ). has d h) (x 
 -- and a refusal all 0
 kept_nothing : (h : ℕ) (l : List ℕ) (n : ℕ) (o : Seeking) (listing old : List ℕ) (s : Sorted) (m : ℕ) → noted h (decided h l n o) s ≡ number m
     → kept (unsettled h l) o listing old ≡ zeros (length old)
-kept_nothing h [] n o listing old s m e = let z : ◌≡◌ {A = ℕ} 0 1 = cc in absurd (omega arith)
+kept_nothing h [] n o listing old s m e = cc
 kept_nothing h (x ∷ l) n o listing old s m e = go (all (λ (d : ℕ). has d h) (x ∷ l)) (any (λ (d : ℕ). has d h) (x ∷ l)) o e
   where
     go : (t u : Bool) (o : Seeking) → noted h (choose t (Needed n) (choose u (Possible n) (by_second n o))) s ≡ number m → kept (choose u false true) o listing old ≡ zeros (length old)
-    go true u o e = let z : ◌≡◌ {A = ℕ} 0 1 = cc in absurd (omega arith)
-    go false true o e = let z : ◌≡◌ {A = ℕ} 0 1 = cc in absurd (omega arith)
-    go false false (admitted k) e = let z : ◌≡◌ {A = ℕ} 0 1 = cc in absurd (omega arith)
-    go false false (excluded k) e = let z : ◌≡◌ {A = ℕ} 0 1 = cc in absurd (omega arith)
+    go true u o e = cc
+    go false true o e = cc
+    go false false (admitted k) e = cc
+    go false false (excluded k) e = cc
     go false false (spent k) e = refl
 
 -- ---- the verdicts on the image
@@ -150,20 +147,20 @@ module _ {image : List ℕ} {hypotheses budget : ℕ} {list area : List ℕ} (ri
     first_result = verdict_result_lem first.0 (abducible first.0 first_in) ∙ ap searched is
 
   pub looked_refused : {r : Listing} {list' area' : List ℕ} → Lists image budget list area r list' area' → (m n : ℕ) → r ≡ listing.Refused m n
-      → Looked image hypotheses budget list area (cleaning.Refused m) list' area'
+      → Looked image hypotheses budget list area (paper.Refused m) list' area'
   looked_refused {r} {list'} {area'} lists m n i = go (search_end (book_in image) (length list) budget) refl
     where
       -- the outcome is one that every verdict refuses alike
       by : (o : Outcome) → search_end (book_in image) (length list) budget ≡ o → (k : ℕ) → k ≡ m
           → ((h : ℕ) → verdict_of h (searched o) (sought (book_in image) h budget) ≡ Refused k n)
           → ((h : ℕ) → verdict_sets h (searched o) (second image h budget) list ≡ sets_of (searched o) list)
-          → Looked image hypotheses budget list area (cleaning.Refused m) list' area'
+          → Looked image hypotheses budget list area (paper.Refused m) list' area'
       by o is k e refused sets =
           let s = stops o is k n refused in
           let f = first_result o is k n refused in
           let res : result_of image budget (length list) (length area) ≡ searched o = the_result ∙ ap searched is in
           record {
-            answer = ap cleaning.Refused (sym e) ∙ ap (paper.answer_of hypotheses) (sym s);
+            answer = ap paper.Refused (sym e) ∙ ap (paper.answer_of hypotheses) (sym s);
             sets =
                 lists.sets ∙ ap (λ (x : Result). sets_of x list) res ∙ sym (sets first.0)
                 ∙ ap (λ (x : Result). verdict_sets first.0 x (second image first.0 budget) list) (sym f) ∙ ap (list_of image budget list area) (sym s);
@@ -173,8 +170,8 @@ module _ {image : List ℕ} {hypotheses budget : ℕ} {list area : List ℕ} (ri
       told : (o : Outcome) → search_end (book_in image) (length list) budget ≡ o → listing.Refused m n ≡ answer_of (searched o)
       told o is = sym i ∙ lists.answer ∙ ap answer_of (the_result ∙ ap searched is)
 
-      go : (o : Outcome) → search_end (book_in image) (length list) budget ≡ o → Looked image hypotheses budget list area (cleaning.Refused m) list' area'
-      go (finished l k) is = let t = told (finished l k) is in let z : ◌≡◌ {A = ℕ} 0 1 = cc in absurd (omega arith)
+      go : (o : Outcome) → search_end (book_in image) (length list) budget ≡ o → Looked image hypotheses budget list area (paper.Refused m) list' area'
+      go (finished l k) is = let t = told (finished l k) is in cc
       go (used_up k) is =
           let t = told (used_up k) is in
           let e : 30 ≡ m = cc in
@@ -191,20 +188,17 @@ module _ {image : List ℕ} {hypotheses budget : ℕ} {list area : List ℕ} (ri
   looked_broken {r} lists m at i = go (search_end (book_in image) (length list) budget) refl
     where
       go : (o : Outcome) → search_end (book_in image) (length list) budget ≡ o → ⊥
-      go (finished l k) is = let t : listing.Broken m at ≡ answer_of (searched (finished l k)) = sym i ∙ lists.answer ∙ ap answer_of (the_result ∙ ap searched is) in let z : ◌≡◌ {A = ℕ} 0 1 = cc in omega arith
-      go (used_up k) is = let t : listing.Broken m at ≡ answer_of (searched (used_up k)) = sym i ∙ lists.answer ∙ ap answer_of (the_result ∙ ap searched is) in let z : ◌≡◌ {A = ℕ} 0 1 = cc in omega arith
-      go (no_room k) is = let t : listing.Broken m at ≡ answer_of (searched (no_room k)) = sym i ∙ lists.answer ∙ ap answer_of (the_result ∙ ap searched is) in let z : ◌≡◌ {A = ℕ} 0 1 = cc in omega arith
+      go (finished l k) is = let t : listing.Broken m at ≡ answer_of (searched (finished l k)) = sym i ∙ lists.answer ∙ ap answer_of (the_result ∙ ap searched is) in cc
+      go (used_up k) is = let t : listing.Broken m at ≡ answer_of (searched (used_up k)) = sym i ∙ lists.answer ∙ ap answer_of (the_result ∙ ap searched is) in cc
+      go (no_room k) is = let t : listing.Broken m at ≡ answer_of (searched (no_room k)) = sym i ∙ lists.answer ∙ ap answer_of (the_result ∙ ap searched is) in cc
 
   -- ---- the listing is finished
 
   -- the second searches may begin
-  pub ready_after : {r : Listing} {list' area' : List ℕ} → Lists image budget list area r list' area' → length area' ≡ length area → Ready image hypotheses budget area'
-  ready_after {r} {list'} {area'} lists same =
+  pub wiped_after : {r : Listing} {list' area' : List ℕ} → Lists image budget list area r list' area' → length area' ≡ length area → Wiped area'
+  wiped_after {r} {list'} {area'} lists same =
       record {
-        book = ripe.book;
-        named = ripe.named;
         long = omega (arith, ripe.long, same);
-        low = ripe.low;
         cleared = wiped ∙ ap (λ (l : List ℕ). zeros work_numbers ++ l) (sym behind);
       }
     where
@@ -272,5 +266,5 @@ module _ {image : List ℕ} {hypotheses budget : ℕ} {list area : List ℕ} (ri
             sets = c.sets l tell j ∙ left.0 ∙ ap (list_of image budget list area) (sym e);
             work = c.work ∙ lists.work ∙ ap (λ (y : Result). work_of y area) res ∙ left.1 ∙ ap (area_of image budget list area) (sym e);
           }
-      go (used_up j) is = let t = said (used_up j) is in let z : ◌≡◌ {A = ℕ} 0 1 = cc in absurd (omega arith)
-      go (no_room j) is = let t = said (no_room j) is in let z : ◌≡◌ {A = ℕ} 0 1 = cc in absurd (omega arith)
+      go (used_up j) is = let t = said (used_up j) is in cc
+      go (no_room j) is = let t = said (no_room j) is in cc

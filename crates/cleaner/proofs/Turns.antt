@@ -19,11 +19,10 @@ use Rattle.image.specs.paper.Book.{Book}
 use Rattle.image.specs.paper.Faults.{limits}
 use Rattle.sets.specs.SetLaws.{within_has, same_members}
 use Rattle.sets.specs.Bits.{has_none, has_one, has_or}
-use Rattle.engine.specs.declared.Verdict.{Verdict}
-use Rattle.engine.specs.declared.Verdict.TheVariants.{Unexplained, Needed, Possible, RuledOut, Broken, Refused}
+use Rattle.engine.specs.paper.Verdict.{Verdict, Unexplained, Needed, Possible, RuledOut, Broken, Refused}
 use Rattle.engine.specs.paper.Verdict.{Says, Refusal}
 use Rattle.cleaner.specs.declared.Sorted.{Sorted}
-use Rattle.cleaner.specs.declared.Cleaning.TheVariants as cleaning
+use Rattle.cleaner.specs.paper.Cleaning as paper
 use Rattle.cleaner.specs.paper.Cleaning.{numbers_from, ascending, unsorted, with, with_unexplained, with_needed, with_possible, with_ruled_out, Noted, sorted, number, noted, turned, all_sorted, stopped, after, in_turn, Means}
 
 -- ---- the hypotheses of a set
@@ -76,15 +75,15 @@ noted_verdict h (Unexplained n) s t e r = r
 noted_verdict h (Needed n) s t e r = r
 noted_verdict h (Possible n) s t e r = r
 noted_verdict h (RuledOut n) s t e r = r
-noted_verdict h (Broken n at) s t e r = let z : ◌≡◌ {A = ℕ} 0 1 = cc in absurd (omega arith)
-noted_verdict h (Refused n m) s t e r = let z : ◌≡◌ {A = ℕ} 0 1 = cc in absurd (omega arith)
+noted_verdict h (Broken n at) s t e r = cc
+noted_verdict h (Refused n m) s t e r = cc
 
 -- a refusal does not depend on what is sorted already
 noted_number : (h : ℕ) (v : Verdict) (s : Sorted) (n : ℕ) → noted h v s ≡ number n → (t : Sorted) → noted h v t ≡ number n
-noted_number h (Unexplained m) s n e t = let z : ◌≡◌ {A = ℕ} 0 1 = cc in absurd (omega arith)
-noted_number h (Needed m) s n e t = let z : ◌≡◌ {A = ℕ} 0 1 = cc in absurd (omega arith)
-noted_number h (Possible m) s n e t = let z : ◌≡◌ {A = ℕ} 0 1 = cc in absurd (omega arith)
-noted_number h (RuledOut m) s n e t = let z : ◌≡◌ {A = ℕ} 0 1 = cc in absurd (omega arith)
+noted_number h (Unexplained m) s n e t = cc
+noted_number h (Needed m) s n e t = cc
+noted_number h (Possible m) s n e t = cc
+noted_number h (RuledOut m) s n e t = cc
 noted_number h (Broken m at) s n e t = e
 noted_number h (Refused m k) s n e t = e
 
@@ -101,19 +100,19 @@ module _ (verdict : ℕ → Verdict) where
       go (sorted u) q e =
           let is : h ≡ k = cc in
           subst (λ (j : ℕ). (j ∈ h ∷ []) × (Refusal (verdict j) → ⊥)) is (here, noted_verdict h (verdict h) s u q)
-      go (number n) q e = let z : ◌≡◌ {A = ℕ} 0 1 = cc in absurd (omega arith)
+      go (number n) q e = cc
   ends_sorted (g ∷ gs) last h s k t e = go (λ u i. ends_sorted gs h g u k t i) (noted h (verdict h) s) e
     where
       go : ((u : Sorted) → in_turn verdict h (g ∷ gs) u ≡ all_sorted k t → (k ∈ g ∷ gs) × (Refusal (verdict k) → ⊥))
           → (x : Noted) → after x (in_turn verdict h (g ∷ gs)) (stopped h) ≡ all_sorted k t → (k ∈ h ∷ g ∷ gs) × (Refusal (verdict k) → ⊥)
       go rest (sorted u) e = let w = rest u e in (there w.0, w.1)
-      go rest (number n) e = let z : ◌≡◌ {A = ℕ} 0 1 = cc in absurd (omega arith)
+      go rest (number n) e = cc
 
   -- at a refusal
   pub ends_stopped : (hs : List ℕ) (last : ℕ) (s : Sorted) (k n : ℕ) → in_turn verdict last hs s ≡ stopped k n
       → (k ∈ hs) × ((t : Sorted) → noted k (verdict k) t ≡ number n)
   unfolding in_turn
-  ends_stopped [] last s k n e = let z : ◌≡◌ {A = ℕ} 0 1 = cc in absurd (omega arith)
+  ends_stopped [] last s k n e = cc
   ends_stopped (h ∷ hs) last s k n e = go (λ u i. ends_stopped hs h u k n i) (noted h (verdict h) s) refl e
     where
       go : ((u : Sorted) → in_turn verdict h hs u ≡ stopped k n → (k ∈ hs) × ((t : Sorted) → noted k (verdict k) t ≡ number n))
@@ -127,12 +126,12 @@ module _ (verdict : ℕ → Verdict) where
   -- never turned away
   pub never_turned : (hs : List ℕ) (last : ℕ) (s : Sorted) (n : ℕ) → in_turn verdict last hs s ≡ turned n → ⊥
   unfolding in_turn
-  never_turned [] last s n e = let z : ◌≡◌ {A = ℕ} 0 1 = cc in omega arith
+  never_turned [] last s n e = cc
   never_turned (h ∷ hs) last s n e = go (λ u. never_turned hs h u n) (noted h (verdict h) s) e
     where
       go : ((u : Sorted) → in_turn verdict h hs u ≡ turned n → ⊥) → (x : Noted) → after x (in_turn verdict h hs) (stopped h) ≡ turned n → ⊥
       go rest (sorted u) e = rest u e
-      go rest (number m) e = let z : ◌≡◌ {A = ℕ} 0 1 = cc in omega arith
+      go rest (number m) e = cc
 
   -- what each verdict keeps is so in the end
   pub in_turn_keeps : (P : Sorted → Type 0) (hs : List ℕ) → ((h : ℕ) → h ∈ hs → (s t : Sorted) → noted h (verdict h) s ≡ sorted t → P s → P t)
@@ -144,7 +143,7 @@ module _ (verdict : ℕ → Verdict) where
       go : ((u : Sorted) → in_turn verdict h hs u ≡ all_sorted k t → P u → P t)
           → (x : Noted) → noted h (verdict h) s ≡ x → after x (in_turn verdict h hs) (stopped h) ≡ all_sorted k t → P t
       go rest (sorted u) q e = rest u e (step h here s u q p)
-      go rest (number n) q e = let z : ◌≡◌ {A = ℕ} 0 1 = cc in absurd (omega arith)
+      go rest (number n) q e = cc
 
 -- verdicts that are the same end the same
 pub in_turn_same : (v w : ℕ → Verdict) (hs : List ℕ) → ((h : ℕ) → h ∈ hs → v h ≡ w h) → (last : ℕ) (s : Sorted) → in_turn v last hs s ≡ in_turn w last hs s
@@ -272,8 +271,8 @@ noted_stays h (Possible n) s t e j c =
 noted_stays h (RuledOut n) s t e j c =
     let is : with_ruled_out h s ≡ t = cc in
     subst (λ (u : Sorted). Covered u j) is (covered_more s (with_ruled_out h s) j (λ m. m) (λ m. m) (λ m. m) (stays h s.excluded j) c)
-noted_stays h (Broken n at) s t e j c = let z : ◌≡◌ {A = ℕ} 0 1 = cc in absurd (omega arith)
-noted_stays h (Refused n m) s t e j c = let z : ◌≡◌ {A = ℕ} 0 1 = cc in absurd (omega arith)
+noted_stays h (Broken n at) s t e j c = cc
+noted_stays h (Refused n m) s t e j c = cc
 
 noted_covers : (h : ℕ) (v : Verdict) (s t : Sorted) → noted h v s ≡ sorted t → Covered t h
 noted_covers h v s t e = go v e
@@ -297,8 +296,8 @@ noted_covers h v s t e = go v e
         either_right (has t.unexplained h) (has t.needed h || (has t.possible h || has t.excluded h))
         (either_right (has t.needed h) (has t.possible h || has t.excluded h)
         (either_right (has t.possible h) (has t.excluded h) (subst (λ (y : Sorted). has y.excluded h ≡ true) is (is_there h s.excluded))))
-    go (Broken m at) e = let z : ◌≡◌ {A = ℕ} 0 1 = cc in absurd (omega arith)
-    go (Refused m k) e = let z : ◌≡◌ {A = ℕ} 0 1 = cc in absurd (omega arith)
+    go (Broken m at) e = cc
+    go (Refused m k) e = cc
 
 module _ (verdict : ℕ → Verdict) where
   -- in the end each hypothesis is in one of the four
@@ -314,7 +313,7 @@ module _ (verdict : ℕ → Verdict) where
           → (x : Noted) → noted h (verdict h) s ≡ x → after x (in_turn verdict h hs) (stopped h) ≡ all_sorted k t → (j ≡ h) ⊎ (j ∈ hs) → Covered t j
       go rest (sorted u) q e (inl i) = keep u e (subst (Covered u) (sym i) (noted_covers h (verdict h) s u q))
       go rest (sorted u) q e (inr n) = rest u e n
-      go rest (number n) q e c = let z : ◌≡◌ {A = ℕ} 0 1 = cc in absurd (omega arith)
+      go rest (number n) q e c = cc
 
 -- ---- by the meaning
 
@@ -328,7 +327,7 @@ module _ (b : Book) (hypotheses : ℕ) (some : 0 < hypotheses) (named : hypothes
       last unsorted k t e (none_right b)
 
   pub sorted_means : (last k : ℕ) (t : Sorted) → in_turn verdict last (ascending hypotheses) unsorted ≡ all_sorted k t
-      → Means b hypotheses (choose (eqb t.excluded hypotheses) cleaning.Deleted (cleaning.Held t))
+      → Means b hypotheses (choose (eqb t.excluded hypotheses) paper.Deleted (paper.Held t))
   sorted_means last k t e = go (eqb t.excluded hypotheses) refl
     where
       one : (h : ℕ) × (h ∈ ascending hypotheses)
@@ -337,7 +336,7 @@ module _ (b : Book) (hypotheses : ℕ) (some : 0 < hypotheses) (named : hypothes
       out : t.excluded ≡ hypotheses → (h : ℕ) → has hypotheses h ≡ true → Says b h (RuledOut 0)
       out i h m = (right last k t e h).ruled_out (ap (λ (d : ℕ). has d h) i ∙ m)
 
-      go : (x : Bool) → eqb t.excluded hypotheses ≡ x → Means b hypotheses (choose x cleaning.Deleted (cleaning.Held t))
+      go : (x : Bool) → eqb t.excluded hypotheses ≡ x → Means b hypotheses (choose x paper.Deleted (paper.Held t))
       go true q =
           let i : t.excluded ≡ hypotheses = eqb-true t.excluded hypotheses q in
           ((out i one.0 (ascending_member hypotheses one.1)).0, λ h m. (out i h m).1)

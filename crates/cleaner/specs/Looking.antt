@@ -6,8 +6,7 @@ use Rattle.image.specs.Accepted.{IsBook, book_in}
 use Rattle.sets.specs.paper.Kept.{longest}
 use Rattle.area.specs.paper.Work.{work_numbers}
 use Rattle.lister.specs.paper.Promise.{most_budget}
-use Rattle.cleaner.specs.declared.Cleaning.{Cleaning}
-use Rattle.cleaner.specs.paper.Cleaning.{ascending, unsorted, number, noted, Ending, turned, all_sorted, stopped, after, in_turn, verdict_on, list_of, area_of, Means}
+use Rattle.cleaner.specs.paper.Cleaning.{Cleaning, ascending, unsorted, number, noted, Ending, turned, all_sorted, stopped, after, in_turn, verdict_on, list_of, area_of, Means}
 use Rattle.cleaner.specs.paper.Cleaning as paper
 
 -- the searches may begin on the image, and some hypothesis is named

@@ -1,9 +1,11 @@
 -- The refusals before any verdict, in the parts in which the code finds them: what the record earns, what the call's numbers earn.
 -- Assumes nothing.
-use Rattle.std.specs.Prelude.{ℕ, ◌+◌, ◌^◌, ◌≡◌, true, List, leb, ltb, length}
+use Rattle.std.specs.Prelude.{ℕ, ◌+◌, ◌^◌, ◌≡◌, true, Result, Ok, Err, List, leb, ltb, length}
 use Rattle.base.specs.paper.Lists.{all}
+use Rattle.image.specs.declared.refusals.Refusal.{Refusal}
 use Rattle.image.specs.paper.Book.{Book}
 use Rattle.image.specs.paper.Faults.{limits}
+use Rattle.image.specs.paper.Refusals.{number_of}
 use Rattle.image.specs.paper.Walk.{Finding, fine, wrong, unless, and_then}
 use Rattle.image.specs.paper.Decode.{Decoded, accepted, refused}
 use Rattle.sets.specs.paper.Kept.{longest}
@@ -11,10 +13,10 @@ use Rattle.area.specs.paper.Work.{work_numbers}
 use Rattle.lister.specs.paper.Promise.{most_budget}
 use Rattle.groups.specs.paper.Group.{well_formed, observed, is_defined}
 
--- the number of a finding; 0 where it is fine
-abbrev pub number_of : Finding → ℕ
-number_of fine = 0
-number_of (wrong n) = n
+-- what a test finds
+abbrev pub finding : {A : Type 0} → Result A Refusal → Finding
+finding (Ok a) = fine
+finding (Err r) = wrong (number_of r)
 
 -- 41, 42 and 5
 abbrev pub of_group : Book → List ℕ → Finding
@@ -34,10 +36,10 @@ of_numbers b hypotheses budget room space =
 abbrev pub of_book : Book → List ℕ → ℕ → ℕ → ℕ → ℕ → Finding
 of_book b group hypotheses budget room space = unless (ltb 0 hypotheses) 40 (and_then (of_group b group) (of_numbers b hypotheses budget room space))
 
--- the number of the first that applies, that of a refused book among them
-abbrev pub refusal_number : Decoded → List ℕ → ℕ → ℕ → ℕ → ℕ → ℕ
-refusal_number (refused n at) group hypotheses budget room space = n
-refusal_number (accepted b) group hypotheses budget room space = number_of (of_book b group hypotheses budget room space)
+-- the first that applies, that of a refused book among them
+abbrev pub first_of : Decoded → List ℕ → ℕ → ℕ → ℕ → ℕ → Finding
+first_of (refused n at) group hypotheses budget room space = wrong n
+first_of (accepted b) group hypotheses budget room space = of_book b group hypotheses budget room space
 
 -- the record is one, of defined atoms, and not too many
 pub record Sound (b : Book) (group : List ℕ) : Type 0 where

@@ -1,44 +1,36 @@
 -- What the sorting asks and leaves: one hypothesis, all of them, and the whole group, from one listing and the second searches.
 -- Assumes nothing.
-use Rattle.std.specs.Prelude.{ℕ, ◌+◌, ◌-◌, ◌^◌, ◌≤◌, ◌<◌, ◌≡◌, true, length, drop}
+use Rattle.std.specs.Prelude.{ℕ, ◌-◌, ◌≤◌, ◌≡◌, true, Option, Some, None, length, drop}
 use mathlib.Core.List.{List, ◌++◌}
 use Rattle.base.specs.paper.Lists.{filter}
 use Rattle.base.specs.paper.Members.{has}
 use Rattle.image.specs.paper.Book.{Book}
 use Rattle.image.specs.paper.Faults.{limits}
-use Rattle.image.specs.Accepted.{IsBook, book_in}
+use Rattle.image.specs.Accepted.{book_in}
 use Rattle.sets.specs.paper.Kept.{zeros}
 use Rattle.area.specs.paper.Work.{work_numbers}
 use Rattle.searching.specs.paper.Seek.{sought}
-use Rattle.searching.proofs.Main.{listed}
-use Rattle.lister.specs.paper.Promise.{most_budget}
-use Rattle.engine.specs.declared.Verdict.{Verdict}
+use Rattle.engine.specs.paper.Verdict.{Verdict}
 use Rattle.engine.specs.paper.Verdict.{by_second, decided}
 use Rattle.cleaner.specs.declared.Sorted.{Sorted}
-use Rattle.cleaner.specs.declared.Cleaning.{Cleaning}
 use Rattle.cleaner.specs.declared.listed.Listed.{Listed}
-use Rattle.cleaner.specs.declared.sorting.Sorting.{Sorting}
-use Rattle.cleaner.specs.declared.sorting.Sorting.TheVariants.{Whole, Spent}
 use Rattle.cleaner.specs.Told.{Tells}
-use Rattle.cleaner.specs.paper.Cleaning.{numbers_from, ascending, unsorted, with_unexplained, with_needed, with_possible, with_ruled_out, Noted, sorted, number, noted, Ending, all_sorted, stopped, after, in_turn}
+use Rattle.cleaner.specs.paper.Cleaning.{Cleaning, numbers_from, ascending, unsorted, with_unexplained, with_needed, with_possible, with_ruled_out, Noted, sorted, number, noted, Ending, all_sorted, stopped, after, in_turn}
 use Rattle.cleaner.specs.paper.Cleaning as paper
 
 -- what is noted, as the code hands it on
-abbrev pub sorting_of : Noted → Sorting
-sorting_of (sorted s) = Whole s
-sorting_of (number n) = Spent
+abbrev pub sorting_of : Noted → Option Sorted
+sorting_of (sorted s) = Some s
+sorting_of (number n) = None
 
 -- ---- the second search
 
--- it may begin, and the work area is as a search leaves it
-pub record Seekable (image : List ℕ) (h budget : ℕ) (area : List ℕ) : Type 0 where
-  pub book : IsBook image
-  pub abducible : h < (book_in image).abducibles
+-- the work area is as a search leaves it
+pub record Wiped (area : List ℕ) : Type 0 where
   pub long : work_numbers ≤ length area
-  pub low : budget ≤ most_budget
   pub cleared : area ≡ zeros work_numbers ++ drop work_numbers area
 
-pub record Seconded (image : List ℕ) (h budget : ℕ) (s : Sorted) (area : List ℕ) (r : Sorting) (area' : List ℕ) : Type 0 where
+pub record Seconded (image : List ℕ) (h budget : ℕ) (s : Sorted) (area : List ℕ) (r : Option Sorted) (area' : List ℕ) : Type 0 where
   pub answer : (n : ℕ) → r ≡ sorting_of (noted h (by_second n (sought (book_in image) h budget)) s)
   pub work : area' ≡ area
 
@@ -48,32 +40,24 @@ pub record Seconded (image : List ℕ) (h budget : ℕ) (s : Sorted) (area : Lis
 abbrev pub by_list : Book → ℕ → List ℕ → ℕ → ℕ → Verdict
 by_list b budget l n h = decided h l n (sought b h budget)
 
-pub record One (image : List ℕ) (h budget : ℕ) (listed : Listed) (s : Sorted) (area : List ℕ) (r : Sorting) (area' : List ℕ) : Type 0 where
+pub record One (image : List ℕ) (h budget : ℕ) (listed : Listed) (s : Sorted) (area : List ℕ) (r : Option Sorted) (area' : List ℕ) : Type 0 where
   pub answer : (hypotheses : ℕ) (l : List ℕ) → Tells hypotheses listed l → has hypotheses h ≡ true → (n : ℕ)
       → r ≡ sorting_of (noted h (by_list (book_in image) budget l n h) s)
   pub work : area' ≡ area
 
 -- ---- all of them
 
--- the searches may begin, and every hypothesis is an abducible of the book
-pub record Ready (image : List ℕ) (hypotheses budget : ℕ) (area : List ℕ) : Type 0 where
-  pub book : IsBook image
-  pub named : hypotheses < 2 ^ (book_in image).abducibles
-  pub long : work_numbers ≤ length area
-  pub low : budget ≤ most_budget
-  pub cleared : area ≡ zeros work_numbers ++ drop work_numbers area
-
 -- how the verdicts end, as the code hands it on
-abbrev pub sorting_at : Ending → Sorting
-sorting_at (paper.turned n) = Spent
-sorting_at (all_sorted last s) = Whole s
-sorting_at (stopped last n) = Spent
+abbrev pub sorting_at : Ending → Option Sorted
+sorting_at (paper.turned n) = None
+sorting_at (all_sorted last s) = Some s
+sorting_at (stopped last n) = None
 
 -- the verdicts by a list
 abbrev pub by_listing : Book → ℕ → ℕ → List ℕ → ℕ → Ending
 by_listing b hypotheses budget l n = in_turn (by_list b budget l n) 0 (ascending hypotheses) unsorted
 
-pub record All (image : List ℕ) (hypotheses budget : ℕ) (listed : Listed) (area : List ℕ) (r : Sorting) (area' : List ℕ) : Type 0 where
+pub record All (image : List ℕ) (hypotheses budget : ℕ) (listed : Listed) (area : List ℕ) (r : Option Sorted) (area' : List ℕ) : Type 0 where
   pub answer : (l : List ℕ) → Tells hypotheses listed l → (n : ℕ) → r ≡ sorting_at (by_listing (book_in image) hypotheses budget l n)
   pub work : area' ≡ area
 
@@ -87,15 +71,6 @@ module _ (image : List ℕ) (hypotheses budget : ℕ) (listed : Listed) where
   pub record Coming (h : ℕ) (s : Sorted) : Type 0 where
     pub coming : (l : List ℕ) → Tells hypotheses listed l → (n : ℕ)
         → (last : ℕ) × (by_listing (book_in image) hypotheses budget l n ≡ in_turn (by_list (book_in image) budget l n) last (to_come h) s)
-
--- what is to come behind h, by what its turn hands on
-abbrev pub Comes : List ℕ → ℕ → ℕ → Listed → ℕ → List ℕ → Sorting → Type 0
-Comes image hypotheses budget listed h area (Whole t) = Coming image hypotheses budget listed (h + 1) t
-Comes image hypotheses budget listed h area Spent = All image hypotheses budget listed area Spent area
-
-pub record Next (image : List ℕ) (hypotheses h budget : ℕ) (listed : Listed) (s : Sorted) (area : List ℕ) (r : Sorting) (area' : List ℕ) : Type 0 where
-  pub next : Coming image hypotheses budget listed h s → Comes image hypotheses budget listed h area r
-  pub work : area' ≡ area
 
 -- ---- the answer by a listing
 

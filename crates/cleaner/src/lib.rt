@@ -5,12 +5,13 @@ mod listed;
 mod refusals;
 mod sorting;
 
-ghost use Rattle.cleaner.specs.paper.Cleaning.{Cleans};
+ghost use Rattle.cleaner.specs.paper.Cleaning.{cleaning, Cleans};
 
 use image::limits::LONGEST_IMAGE;
+use image::refusals::Refusal;
 
 // The hypotheses by their verdicts: for each of the four the set of those that have it.
-#[derive(Drop)]
+#[derive(Clone, Copy, Debug, Default, PartialEq, Eq)]
 pub struct Sorted {
     pub unexplained: u64,
     pub needed: u64,
@@ -18,12 +19,11 @@ pub struct Sorted {
     pub excluded: u64,
 }
 
-// Deleted, held with all verdicts, or held with a refusal's number.
-#[derive(Drop)]
+// Deleted, or held with all verdicts.
+#[derive(Clone, Copy, Debug, PartialEq, Eq)]
 pub enum Cleaning {
     Deleted,
     Held(Sorted),
-    Refused(u8),
 }
 
 // Whether all the hypotheses are ruled out once the group's atoms are observed, with the verdict on each where one is not; or a refusal: the
@@ -35,13 +35,10 @@ pub fn clean(
     budget: u32,
     sets: &mut [u64],
     work: &mut [u32],
-) -> Cleaning
-    ensures { Cleans book.now group.now hypotheses budget sets.old work.old result sets.new work.new }
+) -> Result<Cleaning, Refusal>
+    ensures { Cleans book.now group.now hypotheses budget sets.old work.old (cleaning result) sets.new work.new }
 {
-    let number = refusals::refusal(book, group, hypotheses, budget, sets.len(), work.len());
-    if number != 0 {
-        return Cleaning::Refused(number);
-    }
+    let group = refusals::admit(book, group, hypotheses, budget, sets.len(), work.len())?;
     let mut room = [0u8; LONGEST_IMAGE];
     let bytes = groups::writing::write(book, group, &mut room);
     sorting::look(&room[..bytes], hypotheses, budget, sets, work)

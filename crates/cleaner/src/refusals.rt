@@ -1,84 +1,76 @@
 // The refusals before any verdict, in the order of paper 02, A4.6.
-ghost use Rattle.std.specs.Prelude.{◌≡◌};
+ghost use Rattle.std.specs.Prelude.{◌≡◌, IfOk};
 ghost use Rattle.image.specs.paper.Decode.{decode};
 ghost use Rattle.image.specs.Accepted.{IsBook, book_in};
-ghost use Rattle.cleaner.specs.Refusals.{of_numbers, of_group, of_book, number_of, refusal_number};
+ghost use Rattle.cleaner.specs.Refusals.{of_numbers, of_group, finding, first_of};
 
 use area::END;
-use book::Reading;
+use groups::Group;
 use image::front;
+use image::refusals::Refusal;
 use lister::MOST_BUDGET;
 use sets::LONGEST;
 use sets::members::names_above;
 
-// No refusal.
-pub const NONE: u8 = 0;
-
 // What the call's own numbers earn: 20, 21, 22, 23.
-fn of_numbers(book: &[u8], hypotheses: u64, budget: u32, room: usize, space: usize) -> u8
-    requires { IsBook book.now }
-    ensures { result ≡ number_of (of_numbers (book_in book.now) hypotheses budget room space) }
-{
-    if room > LONGEST {
-        return 20;
-    }
-    if space < END {
-        return 21;
-    }
-    if budget > MOST_BUDGET {
-        return 22;
-    }
-    if names_above(hypotheses, front::abducibles(book)) {
-        return 23;
-    }
-    NONE
-}
-
-// What the group's record earns: 41, 42, and 5.
-fn of_group(book: &[u8], group: &[u8]) -> u8
-    requires { IsBook book.now }
-    ensures { result ≡ number_of (of_group (book_in book.now) group.now) }
-{
-    if !groups::is_well_formed(group) {
-        return 41;
-    }
-    if !groups::all_defined(book, group) {
-        return 42;
-    }
-    if !groups::fits(book, group) {
-        return 5;
-    }
-    NONE
-}
-
-// The refusal of a group where the book is one, or none.
-fn of_book(book: &[u8], group: &[u8], hypotheses: u64, budget: u32, room: usize, space: usize) -> u8
-    requires { IsBook book.now }
-    ensures { result ≡ number_of (of_book (book_in book.now) group.now hypotheses budget room space) }
-{
-    if hypotheses == 0 {
-        return 40;
-    }
-    let number = of_group(book, group);
-    if number != NONE {
-        return number;
-    }
-    of_numbers(book, hypotheses, budget, room, space)
-}
-
-// The first refusal that applies, or none.
-pub fn refusal(
+fn of_numbers(
     book: &[u8],
-    group: &[u8],
     hypotheses: u64,
     budget: u32,
     room: usize,
     space: usize,
-) -> u8
-    ensures { result ≡ refusal_number (decode book.now) group.now hypotheses budget room space }
+) -> Result<(), Refusal>
+    requires { IsBook book.now }
+    ensures { finding result ≡ of_numbers (book_in book.now) hypotheses budget room space }
 {
-    match book::read(book) {
-        Reading::Refused(number, _) => number,
-        Reading::Accepted => of_book(book, group, hypotheses, budget, room, space),
+    if room > LONGEST {
+        return Err(Refusal::LongList);
     }
+    if space < END {
+        return Err(Refusal::ShortArea);
+    }
+    if budget > MOST_BUDGET {
+        return Err(Refusal::LargeBudget);
+    }
+    if names_above(hypotheses, front::abducibles(book)) {
+        return Err(Refusal::NoAbducible);
+    }
+    Ok(())
+}
+
+// The group, or what its record earns: 41, 42, and 5.
+fn of_group<'a>(book: &[u8], bytes: &'a [u8]) -> Result<Group<'a>, Refusal>
+    requires { IsBook book.now }
+    ensures found { finding result ≡ of_group (book_in book.now) bytes.now }
+    ensures same { IfOk result (λ group. group.bytes.now ≡ bytes.now) }
+{
+    let group = Group::read(bytes).ok_or(Refusal::MalformedGroup)?;
+    if !group.all_defined(book) {
+        return Err(Refusal::Undefined);
+    }
+    if !group.fits(book) {
+        return Err(Refusal::Limit);
+    }
+    Ok(group)
+}
+
+// The group, or the first refusal that applies.
+pub fn admit<'a>(
+    book: &[u8],
+    bytes: &'a [u8],
+    hypotheses: u64,
+    budget: u32,
+    room: usize,
+    space: usize,
+) -> Result<Group<'a>, Refusal>
+    ensures found { finding result ≡ first_of (decode book.now) bytes.now hypotheses budget room space }
+    ensures same { IfOk result (λ group. group.bytes.now ≡ bytes.now) }
+{
+    book::read(book).map_err(|fault| fault.refusal)?;
+    if hypotheses == 0 {
+        return Err(Refusal::NoHypothesis);
+    }
+    let group = of_group(book, bytes)?;
+    of_numbers(book, hypotheses, budget, room, space)?;
+    Ok(group)
 }

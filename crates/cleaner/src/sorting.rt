@@ -1,173 +1,102 @@
 // The verdicts on a group: by one listing, and a second search for each hypothesis that the list does not settle.
-ghost use Rattle.std.specs.Prelude.{◌≡◌, ◌<◌};
-ghost use Rattle.sets.specs.SetLaws.{set_bits};
-ghost use Rattle.cleaner.specs.paper.Cleaning.{with_unexplained, with_needed, with_possible, with_ruled_out};
-ghost use Rattle.cleaner.specs.Sorting.{Seekable, Seconded, One, Ready, Next, All, Concluded};
+ghost use Rattle.std.specs.Prelude.{◌≡◌, ◌+◌, ◌^◌, ◌<◌, ◌≤◌};
+ghost use Rattle.image.specs.Accepted.{IsBook, book_in};
+ghost use Rattle.lister.specs.paper.Promise.{most_budget};
+ghost use Rattle.cleaner.specs.paper.Cleaning.{cleaning};
+ghost use Rattle.cleaner.specs.Sorting.{Wiped, Seconded, One, All, Concluded};
 ghost use Rattle.cleaner.specs.Looking.{Ripe, Looked};
 
 use super::listed::{Listed, tell};
 use super::{Cleaning, Sorted};
-use engine::{Admission, Listing};
+use engine::Admission;
+use image::refusals::Refusal;
+use lister::NoAnswer;
 use sets::members::{SET_BITS, is_in, with_member};
 
-// What the sorting ends with: all verdicts, or a second search that needs more than the budget.
-#[derive(Drop)]
-pub enum Sorting {
-    Whole(Sorted),
-    Spent,
-}
-
-fn with_unexplained(sorted: Sorted, h: u32) -> Sorted
-    requires { h < set_bits }
-    ensures { result ≡ with_unexplained h sorted }
-{
-    Sorted {
-        unexplained: with_member(sorted.unexplained, h),
-        needed: sorted.needed,
-        possible: sorted.possible,
-        excluded: sorted.excluded,
-    }
-}
-
-fn with_needed(sorted: Sorted, h: u32) -> Sorted
-    requires { h < set_bits }
-    ensures { result ≡ with_needed h sorted }
-{
-    Sorted {
-        unexplained: sorted.unexplained,
-        needed: with_member(sorted.needed, h),
-        possible: sorted.possible,
-        excluded: sorted.excluded,
-    }
-}
-
-fn with_possible(sorted: Sorted, h: u32) -> Sorted
-    requires { h < set_bits }
-    ensures { result ≡ with_possible h sorted }
-{
-    Sorted {
-        unexplained: sorted.unexplained,
-        needed: sorted.needed,
-        possible: with_member(sorted.possible, h),
-        excluded: sorted.excluded,
-    }
-}
-
-fn with_ruled_out(sorted: Sorted, h: u32) -> Sorted
-    requires { h < set_bits }
-    ensures { result ≡ with_ruled_out h sorted }
-{
-    Sorted {
-        unexplained: sorted.unexplained,
-        needed: sorted.needed,
-        possible: sorted.possible,
-        excluded: with_member(sorted.excluded, h),
-    }
-}
-
-// The verdict on h by the second search.
-fn by_second(image: &[u8], h: u32, budget: u32, work: &mut [u32], sorted: Sorted) -> Sorting
-    requires { Seekable image.now h budget work.old }
-    ensures { Seconded image.now h budget sorted work.old result work.new }
-{
-    match engine::admits(image, h, budget, work) {
-        Admission::Admitted(_) => Sorting::Whole(with_possible(sorted, h)),
-        Admission::Excluded(_) => Sorting::Whole(with_ruled_out(sorted, h)),
-        Admission::Broken(_, _) => Sorting::Spent,
-        Admission::Refused(_, _) => Sorting::Spent,
-    }
-}
-
-// The verdict on h, by the list where that settles it.
-fn sort_one(
-    image: &[u8],
-    h: u32,
-    budget: u32,
-    work: &mut [u32],
-    listed: Listed,
-    sorted: Sorted,
-) -> Sorting
-    requires { Seekable image.now h budget work.old }
-    ensures { One image.now h budget listed sorted work.old result work.new }
-{
-    if listed.count == 0 {
-        return Sorting::Whole(with_unexplained(sorted, h));
-    }
-    if is_in(listed.every, h) {
-        return Sorting::Whole(with_needed(sorted, h));
-    }
-    if is_in(listed.some, h) {
-        return Sorting::Whole(with_possible(sorted, h));
-    }
-    by_second(image, h, budget, work, sorted)
-}
-
-// The verdict on h, if it is one of the hypotheses.
-fn sort_next(
-    image: &[u8],
-    hypotheses: u64,
-    h: u32,
-    budget: u32,
-    work: &mut [u32],
-    listed: Listed,
-    sorted: Sorted,
-) -> Sorting
-    requires { Ready image.now hypotheses budget work.old × (h < set_bits) }
-    ensures { Next image.now hypotheses h budget listed sorted work.old result work.new }
-{
-    if !is_in(hypotheses, h) {
-        return Sorting::Whole(sorted);
-    }
-    sort_one(image, h, budget, work, listed, sorted)
-}
-
-// The verdicts on all hypotheses, from the lowest up.
-fn sort_all(image: &[u8], hypotheses: u64, budget: u32, work: &mut [u32], listed: Listed) -> Sorting
-    requires { Ready image.now hypotheses budget work.old }
-    ensures { All image.now hypotheses budget listed work.old result work.new }
-{
-    let mut sorted = Sorted {
-        unexplained: 0,
-        needed: 0,
-        possible: 0,
-        excluded: 0,
-    };
-    let mut h = 0;
-    loop {
-        if h == SET_BITS {
-            break Sorting::Whole(sorted);
-        }
-        match sort_next(image, hypotheses, h, budget, work, listed, sorted) {
-            Sorting::Whole(more) => sorted = more,
-            Sorting::Spent => break Sorting::Spent,
-        }
-        h += 1;
-    }
-}
-
-// The answer by all verdicts; after a spent second search the list is all 0.
-fn conclude(
-    image: &[u8],
+// What the verdicts go by: the group's image, the hypotheses, each of which is an abducible of it, and what the listing tells of them.
+#[derive(Clone, Copy)]
+struct Sorter<'a> {
+    image: &'a [u8],
     hypotheses: u64,
     budget: u32,
-    sets: &mut [u64],
-    work: &mut [u32],
     listed: Listed,
-) -> Cleaning
-    requires { Ready image.now hypotheses budget work.old }
-    ensures { Concluded image.now hypotheses budget listed sets.old work.old result sets.new work.new }
-{
-    match sort_all(image, hypotheses, budget, work, listed) {
-        Sorting::Whole(sorted) => {
-            if sorted.excluded == hypotheses {
-                return Cleaning::Deleted;
+    ghost book: { IsBook image.now },
+    ghost named: { hypotheses < 2 ^ (book_in image.now).abducibles },
+    ghost low: { budget ≤ most_budget },
+}
+
+impl<'a> Sorter<'a> {
+    // The verdict on h by the second search; none where that is spent.
+    fn by_second(self, h: u32, work: &mut [u32], sorted: Sorted) -> Option<Sorted>
+        requires { (h < (book_in self.image.now).abducibles) × Wiped work.old }
+        ensures { Seconded self.entry.image.now h self.entry.budget sorted work.old result work.new }
+    {
+        match engine::admits(self.image, h, self.budget, work) {
+            Ok(Admission::Admitted(_)) => Some(Sorted {
+                possible: with_member(sorted.possible, h),
+                ..sorted
+            }),
+            Ok(Admission::Excluded(_)) => Some(Sorted {
+                excluded: with_member(sorted.excluded, h),
+                ..sorted
+            }),
+            Err(_) => None,
+        }
+    }
+
+    // The verdict on h, by the list where that settles it.
+    fn sort_one(self, h: u32, work: &mut [u32], sorted: Sorted) -> Option<Sorted>
+        requires { (h < (book_in self.image.now).abducibles) × Wiped work.old }
+        ensures { One self.entry.image.now h self.entry.budget self.entry.listed sorted work.old result work.new }
+    {
+        if self.listed.count == 0 {
+            return Some(Sorted {
+                unexplained: with_member(sorted.unexplained, h),
+                ..sorted
+            });
+        }
+        if is_in(self.listed.every, h) {
+            return Some(Sorted {
+                needed: with_member(sorted.needed, h),
+                ..sorted
+            });
+        }
+        if is_in(self.listed.some, h) {
+            return Some(Sorted {
+                possible: with_member(sorted.possible, h),
+                ..sorted
+            });
+        }
+        self.by_second(h, work, sorted)
+    }
+
+    // The verdicts on all hypotheses, from the lowest up.
+    fn sort_all(self, work: &mut [u32]) -> Option<Sorted>
+        requires { Wiped work.old }
+        ensures { All self.entry.image.now self.entry.hypotheses self.entry.budget self.entry.listed work.old result work.new }
+    {
+        let mut sorted = Sorted::default();
+        for h in 0..SET_BITS {
+            if is_in(self.hypotheses, h) {
+                sorted = self.sort_one(h, work, sorted)?;
             }
-            Cleaning::Held(sorted)
         }
-        Sorting::Spent => {
-            sets::lists::clear(sets, 0);
-            Cleaning::Refused(30)
+        Some(sorted)
+    }
+
+    // The answer by all verdicts; after a spent second search the list is all 0.
+    fn conclude(self, sets: &mut [u64], work: &mut [u32]) -> Result<Cleaning, Refusal>
+        requires { Wiped work.old }
+        ensures { Concluded self.entry.image.now self.entry.hypotheses self.entry.budget self.entry.listed sets.old work.old (cleaning result) sets.new work.new }
+    {
+        let Some(sorted) = self.sort_all(work) else {
+            sets.fill(0);
+            return Err(Refusal::UsedUp);
+        };
+        if sorted.excluded == self.hypotheses {
+            return Ok(Cleaning::Deleted);
         }
+        Ok(Cleaning::Held(sorted))
     }
 }
 
@@ -178,16 +107,21 @@ pub fn look(
     budget: u32,
     sets: &mut [u64],
     work: &mut [u32],
-) -> Cleaning
+) -> Result<Cleaning, Refusal>
     requires { Ripe image.now hypotheses budget sets.old work.old }
-    ensures { Looked image.now hypotheses budget sets.old work.old result sets.new work.new }
+    ensures { Looked image.now hypotheses budget sets.old work.old (cleaning result) sets.new work.new }
 {
     match engine::list(image, budget, sets, work) {
-        Listing::Broken(number, _) => Cleaning::Refused(number),
-        Listing::Refused(number, _) => Cleaning::Refused(number),
-        Listing::Listed(count, _) => {
-            let listed = tell(sets, count, hypotheses);
-            conclude(image, hypotheses, budget, sets, work, listed)
+        Ok(found) => {
+            let sorter = Sorter {
+                image,
+                hypotheses,
+                budget,
+                listed: tell(sets, found.count, hypotheses),
+            };
+            sorter.conclude(sets, work)
         }
+        Err(NoAnswer::Broken(fault)) => Err(fault.refusal),
+        Err(NoAnswer::Refused(refusal, _)) => Err(refusal),
     }
 }

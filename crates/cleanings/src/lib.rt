@@ -2,14 +2,13 @@
 // safe are taken, and a line is written for each group (paper 02, A4.10).
 #![tactic(auto)]
 
-ghost use Rattle.std.specs.Prelude.{◌≤◌, ◌<◌, ◌≡◌, length, IfOk};
+ghost use Rattle.std.specs.Prelude.{◌≤◌, ◌<◌, length, IfOk};
+ghost use Rattle.std.specs.Iterator.{at_most};
 ghost use Rattle.sets.specs.SetLaws.{set_bits};
-ghost use Rattle.cleanings.specs.Buffers.{groups_bytes};
 
 use area::END;
-use arguments::{files, is_given, numbers, unfit};
-use cases::input::{Length, Number, Small};
-use cases::output;
+use arguments::{NoJob, files, is_given, numbers};
+use groups::Group;
 use image::fields::field_at;
 use sets::members::{SET_BITS, with_member};
 use std::io;
@@ -36,34 +35,42 @@ const SIZE: usize = 1;
 
 const COUNTED: usize = SIZE + 2;
 
-fn groups_buffer() -> [u8; BYTES]
-    ensures { groups_bytes ≡ length result }
+// How long the first record is: by its own length field, or all bytes where they are too few for that.
+fn record_len(groups: &[u8]) -> usize
+    requires { 0 < length groups.now }
+    ensures { (0 < result) × (result ≤ length groups.now) }
 {
-    [0; BYTES]
+    if groups.len() < COUNTED {
+        return groups.len();
+    }
+    let size = COUNTED + field_at(groups, SIZE) as usize;
+    size.min(groups.len())
 }
 
-// Where the record that begins here ends: by its own length field, or with all bytes where they are too few for that.
-fn record_end(groups: &[u8], at: usize) -> usize
-    requires { at < length groups.now }
-    ensures { (at < result) × (result ≤ length groups.now) }
-{
-    let rest = groups.len() - at;
-    if rest < COUNTED {
-        return groups.len();
+// The records of a file of groups, one behind the other.
+#[derive(Drop)]
+struct Records<'a>(&'a [u8]);
+
+impl<'a> Iterator for Records<'a> {
+    type Item = &'a [u8];
+
+    ghost remaining = { λ records. at_most (length records.0.now) };
+
+    fn next(&mut self) -> Option<&'a [u8]> {
+        if self.0.is_empty() {
+            return None;
+        }
+        let (record, rest) = self.0.split_at(record_len(self.0));
+        self.0 = rest;
+        Some(record)
     }
-    let size = COUNTED + field_at(groups, at + SIZE) as usize;
-    if rest < size {
-        return groups.len();
-    }
-    at + size
 }
 
 // The group's number, which a malformed record does not have.
 fn number<R: Print>(rt: &R, group: &[u8]) -> io::Result<()> {
-    if groups::is_well_formed(group) {
-        output::count(rt, b"group ", groups::number(group) as u64)
-    } else {
-        print!(rt; "group ?")
+    match Group::read(group) {
+        Some(group) => print!(rt; "group {}", group.number()),
+        None => print!(rt; "group ?"),
     }
 }
 
@@ -78,105 +85,59 @@ fn line<R: Print>(
     let answer = cleaner::clean(book, group, hypotheses, BUDGET, sets, work);
     number(rt, group)?;
     print!(rt; " ")?;
-    verdicts::tell(rt, answer, b"held refused ")?;
-    output::end(rt)
+    verdicts::tell(rt, answer, "held refused")?;
+    println!(rt)
 }
 
 // A line for each record. List and work area are lent again and again: no group's answer depends on what another left there.
-fn lines<R: Print>(
-    rt: &R,
-    book: &[u8],
-    groups: &[u8],
-    hypotheses: u64,
-    sets: &mut [u64],
-    work: &mut [u32],
-) -> io::Result<()> {
-    let mut at = 0;
-    while at < groups.len() {
-        let end = record_end(groups, at);
-        line(rt, book, &groups[at..end], hypotheses, sets, work)?;
-        at = end;
+fn lines<R: Print>(rt: &R, book: &[u8], groups: &[u8], hypotheses: u64) -> io::Result<()> {
+    let mut sets = [0; ROOM];
+    let mut work = [0; END];
+    for group in Records(groups) {
+        line(rt, book, group, hypotheses, &mut sets, &mut work)?;
     }
     Ok(())
 }
 
 // A hypothesis: a number that a set has room for.
-fn take_hypothesis<R: Env + Print>(rt: &R, place: usize) -> io::Result<Small>
-    ensures { IfOk result (λ h. h.value < set_bits) }
+fn take_hypothesis<R: Env>(rt: &R, place: usize) -> Result<u32, NoJob>
+    ensures { IfOk result (λ h. h < set_bits) }
 {
-    let number = numbers::take_number(rt, place)?;
-    if SET_BITS <= number.value {
-        unfit(rt, place)?;
-        return Ok(Small {
-            ok: false,
-            value: 0,
-        });
+    let h = numbers::take_number(rt, place)?;
+    if SET_BITS <= h {
+        return Err(NoJob::Unfit(place));
     }
-    Ok(number)
+    Ok(h)
 }
 
 // All arguments from the first hypothesis on, which must be there, as a set.
-fn take_hypotheses<R: Env + Print>(rt: &R) -> io::Result<Number> {
+fn take_hypotheses<R: Env>(rt: &R) -> Result<u64, NoJob> {
     let mut set = 0;
     for place in HYPOTHESES..usize::MAX {
-        let h = take_hypothesis(rt, place)?;
-        set = with_member(set, h.value);
-        if !h.ok {
-            return Ok(Number {
-                ok: false,
-                value: 0,
-            });
-        }
+        set = with_member(set, take_hypothesis(rt, place)?);
         if !is_given(rt, place + 1) {
             break;
         }
     }
-    Ok(Number {
-        ok: true,
-        value: set,
-    })
+    Ok(set)
 }
 
 // The file of groups. Standard input that has given the book gives nothing more.
-fn take_groups<R: Env + Files + Input + Print>(rt: &R, groups: &mut [u8]) -> io::Result<Length>
-    ensures found { IfOk result (λ found. found.value ≤ length groups.old) }
-    ensures size { length groups.new ≡ length groups.old }
+fn take_groups<'a, R: Env + Files + Input>(rt: &R, groups: &'a mut [u8]) -> Result<&'a [u8], NoJob>
+    ensures { IfOk result (λ found. length found.now < length groups.old) }
 {
     if files::is_input(rt, BOOK) && files::is_input(rt, GROUPS) {
-        files::unread(rt, GROUPS)?;
-        return Ok(Length {
-            ok: false,
-            value: 0,
-        });
+        return Err(NoJob::Unread(GROUPS));
     }
     files::take_whole(rt, GROUPS, groups)
 }
 
-pub fn clean<R: Env + Files + Input + Print>(rt: &R) -> io::Result<()> {
+pub fn clean<R: Env + Files + Input + Print>(rt: &R) -> Result<(), NoJob> {
     let mut book = files::image_buffer();
-    let mut groups = groups_buffer();
-    let taken = files::take_file(rt, BOOK, &mut book)?;
-    if !taken.ok {
-        return Ok(());
-    }
-    let found = take_groups(rt, &mut groups)?;
-    if !found.ok {
-        return Ok(());
-    }
+    let mut groups = [0; BYTES];
+    let book = files::take_file(rt, BOOK, &mut book)?;
+    let groups = take_groups(rt, &mut groups)?;
     let hypotheses = take_hypotheses(rt)?;
-    if !hypotheses.ok {
-        return Ok(());
-    }
-    let mut sets = [0u64; ROOM];
-    let mut work = [0u32; END];
-    let n = taken.value;
-    let m = found.value;
-    lines(
-        rt,
-        &book[..n],
-        &groups[..m],
-        hypotheses.value,
-        &mut sets,
-        &mut work,
-    )
+    lines(rt, book, groups, hypotheses)?;
+    Ok(())
 }

@@ -3,5 +3,6 @@ pub mod CutOff
 pub mod Classes
 pub mod Spans
 pub mod Begins
+pub mod Entries
 pub mod RunCodes
 pub mod Off

@@ -23,6 +23,7 @@ use Rattle.spelling.specs.Table.{name_at}
 use Rattle.spelling.specs.WordLaws.{same_true}
 use Rattle.cutting.specs.CutOff.{word_at, CutOff, RunAt, Fixed}
 use Rattle.cutting.specs.Spans.{front, rest}
+use Rattle.cutting.specs.Entries.{Entry}
 use Rattle.cutting.specs.RunCodes.{bare, byte_code, byte_no_name}
 
 -- the word w at a place
@@ -103,6 +104,10 @@ fixed_off text at {w} f b x =
     let whole = begins_whole w t b in
     let o = off text at w (beyond w t) whole (ap cut (sym whole) ∙ f.cuts (beyond w t)) f.some 0 (λ n. clash n f.no_name) (λ n. clash n f.no_name) (omega arith) in
     same_off o (x.its_code ∙ sym f.its_code) (x.its_end ∙ ap (λ (n : ℕ). at + n) (sym f.long)) x.no_hash
+
+-- an entry of such a word
+abbrev pub FixedEntry : Entry → Type 0
+FixedEntry e = FixedWord e.0.now e.1 (length e.0.now)
 
 -- ---- a byte of no sign
 

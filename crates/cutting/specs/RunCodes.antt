@@ -22,6 +22,7 @@ use Rattle.spelling.specs.WordLaws.{same_true}
 use Rattle.cutting.specs.CutOff.{longest_word, longest_name, run_code}
 use Rattle.cutting.specs.Classes.{name_small}
 use Rattle.cutting.specs.Begins.{same_begins, other_length}
+use Rattle.cutting.specs.Entries.{Entry}
 
 -- the runs that are no names, whatever their bytes
 abbrev pub bare : List Word
@@ -162,6 +163,10 @@ module _ (w : Word) where
   pub naf_run : same w bare_naf ≡ true → other_code ≡ code_of [] w
   unfolding code_of is_name small in_name same
   naf_run e = same_code bare_naf e
+
+-- an entry of a word whose code is the run's, if the run is that word
+abbrev pub CodedEntry : Word → Entry → Type 0
+CodedEntry w e = same w e.0.now ≡ true → e.1 ≡ code_of [] w
 
 -- ---- a run's code, one test after the other
 

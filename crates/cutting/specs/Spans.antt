@@ -1,7 +1,7 @@
 -- A span over a text, a byte at a time: what a loop over blanks and one over a run go by.
 -- Assumes nothing.
 use Rattle.std.specs.Prelude.{ℕ, ◌+◌, ◌%◌, ◌<◌, ◌≤◌, ◌≡◌, refl, Bool, true, false, drop}
-use Rattle.std.proofs.Common.{arith, ◌∙◌}
+use Rattle.std.proofs.Common.{arith, ◌∙◌, subst}
 use Rattle.std.proofs.Math.Path.{sym, ap}
 use mathlib.Core.List.{List, [], ◌∷◌}
 use Rattle.std.proofs.Math.ListN.{length, get_or, drop_of_length-le}
@@ -56,8 +56,11 @@ module _ (text : List ℕ) (at : ℕ) where
     pub blanks_met : i < length text → blank (get_or text i 0) ≡ false → BlanksEnd text at i
     blanks_met h e = blanks_stop (span_unmet blank text i h e)
 
-    pub blanks_over : length text ≤ i → BlanksEnd text at i
-    blanks_over h = blanks_stop (span_over blank text i h)
+    pub blanks_over : length text ≤ i → BlanksEnd text at (length text)
+    blanks_over h =
+        let within = so.within in
+        let end : i ≡ length text = omega arith in
+        subst (BlanksEnd text at) end (blanks_stop (span_over blank text i h))
 
 -- ---- a run and its hash, up to i
 
@@ -103,5 +106,8 @@ module _ (text : List ℕ) (at : ℕ) where
     pub run_met : i < length text → in_name (get_or text i 0) ≡ false → RunAt text at i (hash % buckets)
     run_met h e = run_stop (span_unmet in_name text i h e)
 
-    pub run_over : length text ≤ i → RunAt text at i (hash % buckets)
-    run_over h = run_stop (span_over in_name text i h)
+    pub run_over : length text ≤ i → RunAt text at (length text) (hash % buckets)
+    run_over h =
+        let within = so.within in
+        let end : i ≡ length text = omega arith in
+        subst (λ (e : ℕ). RunAt text at e (hash % buckets)) end (run_stop (span_over in_name text i h))

@@ -2,8 +2,7 @@
 #![tactic(auto)]
 
 ghost use Rattle.std.specs.Prelude.{◌≡◌, [], ◌∷◌, ◌+◌, ◌≤◌, ◌<◌, length, drop};
-ghost use Rattle.image.specs.paper.Walk.{byte_values};
-ghost use Rattle.spelling.specs.paper.Words.{blank, in_name, within, same};
+ghost use Rattle.spelling.specs.paper.Words.{blank, in_name, same};
 ghost use Rattle.spelling.specs.paper.Answer.{longest_text};
 ghost use Rattle.spelling.specs.Cut.{begins};
 ghost use Rattle.spelling.specs.Codes.{code_of, hash_values, hash_from};
@@ -23,32 +22,24 @@ const HASH_FACTOR: usize = 9;
 
 const HASH_VALUES: usize = 1 << 32;
 
-#[derive(Drop)]
+#[derive(Clone, Copy, Debug, PartialEq, Eq)]
 pub struct Cut {
     pub code: u16,
     pub end: usize,
     pub hash: usize,
 }
 
-#[derive(Drop)]
+#[derive(Clone, Copy, Debug, PartialEq, Eq)]
 struct Run {
     end: usize,
     hash: usize,
 }
 
+#[tactic(auto, unfolding(spelling::specs::paper::Words::blank))]
 fn is_blank(b: u8) -> bool
     ensures { result ≡ blank b }
 {
-    if b == b' ' {
-        return true;
-    }
-    if b == b'\t' {
-        return true;
-    }
-    if b == b'\n' {
-        return true;
-    }
-    b == b'\r'
+    b == b' ' || b == b'\t' || b == b'\n' || b == b'\r'
 }
 
 // The first place from `at` on where no blank stands.
@@ -56,70 +47,36 @@ pub fn blanks_end(text: &[u8], at: usize) -> usize
     requires { at ≤ length text.now }
     ensures { BlanksEnd text.now at result }
 {
-    let mut i = at;
-    while i < text.len() {
+    for i in at..text.len() {
         if !is_blank(text[i]) {
             return i;
         }
-        i += 1;
     }
-    i
+    text.len()
 }
 
 // Whether a word stands at a place.
-pub fn begins(text: &[u8], at: usize, word: &[u8]) -> bool
+fn begins(text: &[u8], at: usize, word: &[u8]) -> bool
     requires { at ≤ length text.now }
     ensures { result ≡ begins word.now (drop at text.now) }
 {
-    if text.len() - at < word.len() {
-        return false;
-    }
-    let mut i = 0;
-    while i < word.len() {
-        if text[at + i] != word[i] {
-            return false;
-        }
-        i += 1;
-    }
-    true
+    text[at..].starts_with(word)
 }
 
-fn is_within(least: u8, most: u8, b: u8) -> bool
-    ensures { result ≡ within least most b }
-{
-    if b < least {
-        return false;
-    }
-    b <= most
-}
-
+#[tactic(auto, unfolding(spelling::specs::paper::Words::in_name, spelling::specs::paper::Words::small))]
 pub fn in_name(b: u8) -> bool
     ensures { result ≡ in_name b }
 {
-    if is_within(b'a', b'z', b) {
-        return true;
-    }
-    if is_within(b'A', b'Z', b) {
-        return true;
-    }
-    if is_within(b'0', b'9', b) {
-        return true;
-    }
-    b == b'_'
-}
-
-fn wide(b: u8) -> usize
-    ensures { (result ≡ b) × (result < byte_values) }
-{
-    b as usize
+    b.is_ascii_alphanumeric() || b == b'_'
 }
 
 // The hash of a run with one byte more.
+#[tactic(auto, unfolding(spelling::specs::Codes::hash_from))]
 fn hash_on(hash: usize, b: u8) -> usize
     requires { hash < hash_values }
     ensures { (result ≡ hash_from hash (b ∷ [])) × (result < hash_values) }
 {
-    (HASH_FACTOR * hash + wide(b)) % HASH_VALUES
+    (HASH_FACTOR * hash + usize::from(b)) % HASH_VALUES
 }
 
 // The run of letters, digits and underscores at a place. Most are small letters, which are tested first and apart.
@@ -127,26 +84,19 @@ fn run_at(text: &[u8], at: usize) -> Run
     requires { at ≤ length text.now }
     ensures { RunAt text.now at result.end result.hash }
 {
-    let mut i = at;
     let mut hash = 0;
-    while i < text.len() {
+    for i in at..text.len() {
         let b = text[i];
-        if is_within(b'a', b'z', b) {
-            hash = hash_on(hash, b);
-            i += 1;
-        } else {
-            if !in_name(b) {
-                return Run {
-                    end: i,
-                    hash: hash % BUCKETS,
-                };
-            }
-            hash = hash_on(hash, b);
-            i += 1;
+        if !b.is_ascii_lowercase() && !in_name(b) {
+            return Run {
+                end: i,
+                hash: hash % BUCKETS,
+            };
         }
+        hash = hash_on(hash, b);
     }
     Run {
-        end: i,
+        end: text.len(),
         hash: hash % BUCKETS,
     }
 }
@@ -163,31 +113,26 @@ fn fixed(code: u16, at: usize, size: usize) -> Cut
     }
 }
 
+// The signs with their codes.
+const SIGNS: [(&[u8], u16); 7] = [
+    (&COMMA_WORD, COMMA),
+    (&CLOSE_WORD, CLOSE),
+    (&DOT_WORD, DOT),
+    (&NECK_WORD, NECK),
+    (&SEMICOLON_WORD, SEMICOLON),
+    (&ARROW_WORD, ARROW),
+    (&QUERY_WORD, QUERY),
+];
+
 // The sign at a place that has no run.
 fn sign_at(text: &[u8], at: usize) -> Cut
     requires { (at < length text.now) × (length text.now ≤ longest_text) × (name_at text.now at ≡ []) }
     ensures { CutOff text.now at result.code result.end result.hash }
 {
-    if begins(text, at, &COMMA_WORD) {
-        return fixed(COMMA, at, COMMA_WORD.len());
-    }
-    if begins(text, at, &CLOSE_WORD) {
-        return fixed(CLOSE, at, CLOSE_WORD.len());
-    }
-    if begins(text, at, &DOT_WORD) {
-        return fixed(DOT, at, DOT_WORD.len());
-    }
-    if begins(text, at, &NECK_WORD) {
-        return fixed(NECK, at, NECK_WORD.len());
-    }
-    if begins(text, at, &SEMICOLON_WORD) {
-        return fixed(SEMICOLON, at, SEMICOLON_WORD.len());
-    }
-    if begins(text, at, &ARROW_WORD) {
-        return fixed(ARROW, at, ARROW_WORD.len());
-    }
-    if begins(text, at, &QUERY_WORD) {
-        return fixed(QUERY, at, QUERY_WORD.len());
+    for (word, code) in &SIGNS {
+        if begins(text, at, word) {
+            return fixed(*code, at, word.len());
+        }
     }
     fixed(OTHER, at, 1)
 }
@@ -197,41 +142,40 @@ fn is_run(text: &[u8], at: usize, end: usize, word: &[u8]) -> bool
     requires { (end ≤ length text.now) × (end ≡ at + length (name_at text.now at)) }
     ensures { result ≡ same (name_at text.now at) word.now }
 {
-    if end - at != word.len() {
-        return false;
-    }
-    begins(text, at, word)
+    &text[at..end] == word
 }
 
 // The code of a run of `size` bytes that is no fixed word.
+#[tactic(auto, unfolding(crate::specs::CutOff::run_code, spelling::specs::paper::Words::small))]
 fn name_code(first: u8, size: usize) -> u16
     ensures { result ≡ run_code first size }
 {
     if LONGEST_NAME < size {
         return OTHER;
     }
-    if is_within(b'a', b'z', first) {
+    if first.is_ascii_lowercase() {
         return NAMES;
     }
     OTHER
 }
+
+// The runs that are no names, with their codes.
+const RUNS: [(&[u8], u16); 4] = [
+    (&TRUE_WORD, TRUE),
+    (&FALSE_WORD, FALSE),
+    (&BARE_ABD, OTHER),
+    (&BARE_NAF, OTHER),
+];
 
 // The code of the run from `at` to `end`.
 fn run_code(text: &[u8], at: usize, end: usize) -> u16
     requires { (at < end) × (end ≤ length text.now) × (end ≡ at + length (name_at text.now at)) }
     ensures { result ≡ code_of [] (name_at text.now at) }
 {
-    if is_run(text, at, end, &TRUE_WORD) {
-        return TRUE;
-    }
-    if is_run(text, at, end, &FALSE_WORD) {
-        return FALSE;
-    }
-    if is_run(text, at, end, &BARE_ABD) {
-        return OTHER;
-    }
-    if is_run(text, at, end, &BARE_NAF) {
-        return OTHER;
+    for (word, code) in &RUNS {
+        if is_run(text, at, end, word) {
+            return *code;
+        }
     }
     name_code(text[at], end - at)
 }
@@ -241,9 +185,7 @@ pub fn word_at(text: &[u8], at: usize) -> Cut
     requires { (at < length text.now) × (length text.now ≤ longest_text) }
     ensures { CutOff text.now at result.code result.end result.hash }
 {
-    let run = run_at(text, at);
-    let end = run.end;
-    let hash = run.hash;
+    let Run { end, hash } = run_at(text, at);
     if end == at {
         return sign_at(text, at);
     }

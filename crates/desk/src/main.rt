@@ -25,30 +25,34 @@
 // A job is found by its name here; the first six are in crate jobs, then two in crate texts, and the last in crate cleanings.
 #![tactic(auto)]
 
-use arguments::asked;
-use cases::output;
+use arguments::NoJob;
 use std::io;
+use std::rt::{Env, Files};
+
+// The longest word that names a job, and more.
+const WORD: usize = 16;
+
+// The job that the first argument names.
+fn done<R: Env + Files + Input + Print>(rt: &R) -> Result<(), NoJob> {
+    let mut word = [0; WORD];
+    match arguments::argument(rt, 1, &mut word) {
+        b"check" => jobs::check(rt),
+        b"judge" => jobs::judge(rt),
+        b"list" => jobs::list(rt),
+        b"verdict" => jobs::verdict(rt),
+        b"admits" => jobs::admits(rt),
+        b"join" => jobs::join(rt),
+        b"image" => texts::answered(rt, text::read),
+        b"names" => texts::answered(rt, text::names),
+        b"clean" => cleanings::clean(rt),
+        _ => Err(NoJob::Unknown),
+    }
+}
 
 fn main(rt: HostRuntime) -> io::Result<()> {
-    if asked(&rt, b"check") {
-        jobs::check(&rt)
-    } else if asked(&rt, b"judge") {
-        jobs::judge(&rt)
-    } else if asked(&rt, b"list") {
-        jobs::list(&rt)
-    } else if asked(&rt, b"verdict") {
-        jobs::verdict(&rt)
-    } else if asked(&rt, b"admits") {
-        jobs::admits(&rt)
-    } else if asked(&rt, b"join") {
-        jobs::join(&rt)
-    } else if asked(&rt, b"image") {
-        texts::image(&rt)
-    } else if asked(&rt, b"names") {
-        texts::names(&rt)
-    } else if asked(&rt, b"clean") {
-        cleanings::clean(&rt)
-    } else {
-        output::line(&rt, b"unknown")
+    match done(&rt) {
+        Err(NoJob::Unwritten(error)) => Err(error),
+        Err(reason) => println!(rt; "{reason}"),
+        Ok(()) => Ok(()),
     }
 }

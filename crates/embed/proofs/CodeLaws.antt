@@ -2,32 +2,25 @@
 -- Assumes nothing.
 use Rattle.std.specs.Prelude.{ℕ, zero, suc, ◌+◌, ◌*◌, ◌/◌, ◌%◌, ◌<◌, ◌≡◌, refl, List}
 use Rattle.std.proofs.Common.{sym, ap, ap₂, ◌∙◌, arith}
-use Rattle.book.specs.declared.Reading.{Reading}
-use Rattle.book.specs.declared.Reading.TheVariants as reading
-use Rattle.book.specs.paper.Reading.{Reads}
+use Rattle.book.specs.paper.Reading.{Reading, Reads}
+use Rattle.book.specs.paper.Reading as reading
 use Rattle.book.specs.ReadingLaws.{reads_unique}
-use Rattle.judging.specs.declared.Judgement.{Judgement}
-use Rattle.judging.specs.declared.Judgement.TheVariants as judgement
-use Rattle.judging.specs.paper.Judged.{Judges}
+use Rattle.judging.specs.paper.Judged as judgement
+use Rattle.judging.specs.paper.Judged.{Judgement, Judges}
 use Rattle.judging.specs.JudgedLaws.{judges_unique}
-use Rattle.lister.specs.declared.Listing.{Listing}
-use Rattle.lister.specs.declared.Listing.TheVariants as listing
-use Rattle.lister.specs.paper.Promise.{Lists}
+use Rattle.lister.specs.paper.Promise as listing
+use Rattle.lister.specs.paper.Promise.{Listing, Lists}
 use Rattle.lister.specs.PromiseLaws.{lists_unique}
-use Rattle.admitting.specs.declared.Admission.{Admission}
-use Rattle.admitting.specs.declared.Admission.TheVariants as admission
-use Rattle.admitting.specs.paper.Promise.{Admits}
+use Rattle.admitting.specs.paper.Promise as admission
+use Rattle.admitting.specs.paper.Promise.{Admission, Admits}
 use Rattle.admitting.specs.AdmitLaws.{admits_unique}
-use Rattle.engine.specs.declared.Verdict.{Verdict}
-use Rattle.engine.specs.declared.Verdict.TheVariants as verdict
-use Rattle.engine.specs.paper.Verdict.{Verdicts}
+use Rattle.engine.specs.paper.Verdict as verdict
+use Rattle.engine.specs.paper.Verdict.{Verdict, Verdicts}
 use Rattle.engine.specs.VerdictLaws.{verdicts_unique}
-use Rattle.joiner.specs.declared.Joined.{Joined}
-use Rattle.joiner.specs.declared.Joined.TheVariants as joined
-use Rattle.joiner.specs.paper.Join.{Joins}
+use Rattle.joiner.specs.paper.Join.{Joined, Count, Refused, Joins}
 use Rattle.joiner.specs.JoinLaws.{joins_unique}
-use Rattle.image.specs.declared.Writing.{Writing}
-use Rattle.image.specs.declared.Writing.TheVariants as writing
+use Rattle.image.specs.paper.Writing.{Writing}
+use Rattle.image.specs.paper.Writing as writing
 use Rattle.spelling.specs.paper.Document.{Document}
 use Rattle.spelling.specs.paper.Answer.{image_of, name_lines, Writes}
 use Rattle.spelling.proofs.Answers.{writes_unique}
@@ -169,14 +162,14 @@ verdict_back (verdict.Refused m n) w =
     told verdict_at (verdict_refused + node_codes * m + n) 4 (node_codes * m + n) (omega arith) (omega arith) ∙ parted verdict.Refused (node_codes * m + n) m n refl (omega arith)
 
 joined_at : ℕ → ℕ → Joined
-joined_at zero k = joined.Count k
-joined_at (suc n) k = joined.Refused (suc n)
+joined_at zero k = Count k
+joined_at (suc n) k = Refused (suc n)
 
 joined_back : (r : Joined) → JoinedWithin r → joined_at (joined_code r / node_codes) (joined_code r % node_codes) ≡ r
 unfolding joined_at
-joined_back (joined.Count k) w = parted joined_at k 0 k (omega arith) (omega arith)
-joined_back (joined.Refused zero) w = absurd (omega (arith, w.some))
-joined_back (joined.Refused (suc n)) w = parted joined_at (node_codes * suc n) (suc n) 0 (omega arith) (omega arith)
+joined_back (Count k) w = parted joined_at k 0 k (omega arith) (omega arith)
+joined_back (Refused zero) w = absurd (omega (arith, w.some))
+joined_back (Refused (suc n)) w = parted joined_at (node_codes * suc n) (suc n) 0 (omega arith) (omega arith)
 
 writing_at : ℕ → ℕ → Writing
 writing_at zero n = writing.Written n

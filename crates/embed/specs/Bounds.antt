@@ -1,6 +1,6 @@
 -- How large the parts of each answer can be, by the promise of the call that gives it.
 -- Assumes nothing.
-use Rattle.std.specs.Prelude.{ℕ, ◌+◌, ◌^◌, ◌≤◌, ◌≡◌, refl, Bool, true, false, List, [], ◌∷◌, leb, ltb, length}
+use Rattle.std.specs.Prelude.{ℕ, ◌+◌, ◌*◌, ◌^◌, ◌≤◌, ◌≡◌, refl, Bool, true, false, List, [], ◌∷◌, leb, ltb, length}
 use Rattle.std.proofs.Common.{sym, subst, inr, ⊎_elim, arith, ltb-true, ltb-false}
 use Rattle.base.specs.paper.Bools.{choose}
 use Rattle.base.specs.Bools.{decide}
@@ -12,39 +12,36 @@ use Rattle.image.specs.paper.Decode.{Decoded, accepted, refused, decode}
 use Rattle.image.specs.Numbers.{decode_number}
 use Rattle.placing.proofs.Most.{place_most}
 use Rattle.image.specs.Accepted.{within}
-use Rattle.book.specs.paper.Reading.{Reads, reading_of}
-use Rattle.book.specs.declared.Reading.{Reading}
-use Rattle.book.specs.declared.Reading.TheVariants as reading
+use Rattle.book.specs.paper.Reading.{Reading, Reads, reading_of}
+use Rattle.book.specs.paper.Reading as reading
 use Rattle.meaning.specs.paper.Meaning.{true_in, value, holds}
 use Rattle.judging.specs.FailingLaws.{failing_most}
-use Rattle.judging.specs.paper.Judged.{Judges, judged, judged_of, judged_book, first_false, first_broken}
-use Rattle.judging.specs.declared.Judgement.{Judgement}
-use Rattle.judging.specs.declared.Judgement.TheVariants as judgement
+use Rattle.judging.specs.paper.Judged.{Judgement, Judges, judged, judged_of, judged_book, first_false, first_broken}
+use Rattle.judging.specs.paper.Judged as judgement
 use Rattle.searching.specs.paper.Rules.{root, Outcome, finished, used_up, no_room, run_from, sent, search_end}
 use Rattle.searching.specs.paper.Tree.{size}
 use Rattle.searching.proofs.Outcomes.{kept_at, Says, finishes, runs_out, fills_up, says}
 use Rattle.sets.specs.KeptLaws.{sort_length}
-use Rattle.joiner.specs.paper.Join.{Long, Outcome as Ending, refused20, refused31, counted, Joins}
+use Rattle.joiner.specs.paper.Join.{Joined, Count, Refused, Long, Outcome as Ending, refused20, refused31, counted, Joins}
 use Rattle.sets.specs.paper.Kept.{longest}
 use Rattle.joiner.specs.JoinLaws.{joins_outcome}
-use Rattle.joiner.specs.declared.Joined.{Joined}
-use Rattle.joiner.specs.declared.Joined.TheVariants as joined
-use Rattle.lister.specs.paper.Promise.{most_budget, Result, broken, turned, searched, by_book, result_of, answer_of, Lists}
-use Rattle.lister.specs.declared.Listing.{Listing}
-use Rattle.lister.specs.declared.Listing.TheVariants as list
+use Rattle.lister.specs.paper.Promise.{Listing, most_budget, Result, broken, turned, searched, by_book, result_of, answer_of, Lists}
+use Rattle.lister.specs.paper.Promise as list
+use Rattle.lister.specs.declared.NoAnswer.{NoAnswer}
+use Rattle.lister.specs.declared.NoAnswer.TheVariants as none
+use Rattle.image.specs.paper.Refusals.{number_of}
+use Rattle.embed.specs.paper.Codes.{node_codes, kind_codes, broken_code}
 use Rattle.searching.specs.paper.Seek.{Seeking, admitted, excluded, spent, sought}
 use Rattle.searching.proofs.Admitted.{sought_within}
 use Rattle.admitting.specs.paper.Promise as admits
-use Rattle.admitting.specs.declared.Admission.{Admission}
-use Rattle.admitting.specs.declared.Admission.TheVariants as admission
-use Rattle.engine.specs.paper.Verdict.{named, asked, verdict_result, second_of, second, by_second, decided, verdict_of, visited, Verdicts}
-use Rattle.engine.specs.declared.Verdict.{Verdict}
-use Rattle.engine.specs.declared.Verdict.TheVariants as verdict
+use Rattle.admitting.specs.paper.Promise.{Admission}
+use Rattle.engine.specs.paper.Verdict.{Verdict, named, asked, verdict_result, second_of, second, by_second, decided, verdict_of, visited, Verdicts}
+use Rattle.engine.specs.paper.Verdict as verdict
 use Rattle.area.specs.paper.Work.{work_numbers}
 use Rattle.image.specs.Encode.{longest_image, longest_image_lem}
 use Rattle.image.specs.paper.Writing.{Ending as Written, answer_of as writing_of}
-use Rattle.image.specs.declared.Writing.{Writing}
-use Rattle.image.specs.declared.Writing.TheVariants as writing
+use Rattle.image.specs.paper.Writing.{Writing}
+use Rattle.image.specs.paper.Writing as writing
 use Rattle.spelling.specs.paper.Document.{Document}
 use Rattle.spelling.specs.paper.Said.{book_of}
 use Rattle.spelling.specs.paper.Answer.{image_of, name_lines, Clear, Ends, malformed, clashes, turned, short, whole, Writes}
@@ -182,13 +179,25 @@ listing_within s budget sets work r sets' work' h =
     go (searched (used_up n)) k = record { number = refusal 30 (omega arith) (omega arith); nodes = omega (arith, k) }
     go (searched (no_room n)) k = record { number = refusal 31 (omega arith) (omega arith); nodes = omega (arith, k) }
 
+-- ---- a search without an answer
+
+-- the place of an image's own refusal is one
+abbrev pub NoAnswerWithin : NoAnswer → Type 0
+NoAnswerWithin (none.Broken fault) = fault.place ≤ longest_image
+NoAnswerWithin (none.Refused refusal n) = Unit {0}
+
+-- its code: the refusals have those of this kind, and the image's own those of the next
+abbrev pub no_answer_code : NoAnswer → ℕ → ℕ
+no_answer_code (none.Broken fault) kind = kind + kind_codes + broken_code (number_of fault.refusal) fault.place
+no_answer_code (none.Refused refusal n) kind = kind + node_codes * number_of refusal + n
+
 -- ---- admits
 
 abbrev pub AdmissionWithin : Admission → Type 0
-AdmissionWithin (admission.Admitted n) = n ≤ most_nodes
-AdmissionWithin (admission.Excluded n) = n ≤ most_nodes
-AdmissionWithin (admission.Broken n at) = BrokenAt n at
-AdmissionWithin (admission.Refused m n) = RefusedAt m n
+AdmissionWithin (admits.Admitted n) = n ≤ most_nodes
+AdmissionWithin (admits.Excluded n) = n ≤ most_nodes
+AdmissionWithin (admits.Broken n at) = BrokenAt n at
+AdmissionWithin (admits.Refused m n) = RefusedAt m n
 
 -- the second search ends within its budget
 second_within : (b : Book) (h budget : ℕ) → budget ≤ most_nodes → visited (sought b h budget) ≤ most_nodes
@@ -211,7 +220,7 @@ admission_within s h budget work r work' a = subst AdmissionWithin (sym a.answer
     told (excluded n) k = k
     told (spent n) k = record { number = refusal 30 (omega arith) (omega arith); nodes = omega (arith, k) }
 
-    away : (m : ℕ) → 1 ≤ m → m ≤ last_number → AdmissionWithin (admission.Refused m 0)
+    away : (m : ℕ) → 1 ≤ m → m ≤ last_number → AdmissionWithin (admits.Refused m 0)
     away m p q = record { number = refusal m p q; nodes = omega arith }
 
     go : (x : Decoded) → decode s ≡ x → AdmissionWithin (admits.answer_of (admits.by_book x h budget (length work)))
@@ -282,8 +291,8 @@ verdict_within s h budget sets work r sets' work' v =
 -- ---- join
 
 abbrev pub JoinedWithin : Joined → Type 0
-JoinedWithin (joined.Count k) = k ≤ longest
-JoinedWithin (joined.Refused n) = Refusal n
+JoinedWithin (Count k) = k ≤ longest
+JoinedWithin (Refused n) = Refusal n
 
 pub joined_within : (left right out : List ℕ) (r : Joined) (after : List ℕ) → Joins left right out r after → JoinedWithin r
 joined_within left right out r after h = go (joins_outcome h)

@@ -6,17 +6,14 @@ mod codes;
 
 ghost use Rattle.std.specs.Prelude.{◌≡◌};
 ghost use Rattle.embed.specs.paper.Codes.{ReadingCode, JudgementCode, ListingCode, AdmissionCode, VerdictCode, JoinedCode, writing_code, WritingCode};
+ghost use Rattle.image.specs.paper.Writing.{writing};
 ghost use Rattle.spelling.specs.paper.Answer.{image_of, name_lines};
 
-use book::Reading;
-use codes::{NODE_CODES, broken_code};
-use engine::{Admission, Joined, Judgement, Listing, Verdict};
-use image::Writing;
+use codes::{KIND_CODES, NODE_CODES, broken_code, no_answer_code, refused_code};
+use engine::{Admission, Judgement, NoJudgement, Verdict};
+use image::refusals::Refusal;
 
-// How many codes there are for a kind of answer, 2^56.
-const KIND_CODES: u64 = 1 << 56;
-
-// Where the codes of each kind begin, but of the first.
+// Where the codes of each kind begin, but of the first; those of an image's own refusal behind a search are the next behind the refusals'.
 const FALSE_GOAL: u64 = KIND_CODES;
 
 const BROKEN_CONSTRAINT: u64 = 2 * KIND_CODES;
@@ -27,13 +24,9 @@ const JUDGE_BROKEN: u64 = 4 * KIND_CODES;
 
 const LIST_REFUSED: u64 = KIND_CODES;
 
-const LIST_BROKEN: u64 = 2 * KIND_CODES;
-
 const EXCLUDED: u64 = KIND_CODES;
 
 const ADMITS_REFUSED: u64 = 2 * KIND_CODES;
-
-const ADMITS_BROKEN: u64 = 3 * KIND_CODES;
 
 const NEEDED: u64 = KIND_CODES;
 
@@ -43,15 +36,13 @@ const RULED_OUT: u64 = 3 * KIND_CODES;
 
 const VERDICT_REFUSED: u64 = 4 * KIND_CODES;
 
-const VERDICT_BROKEN: u64 = 5 * KIND_CODES;
-
 #[unsafe(no_mangle)]
 pub extern "C" fn wizogbare_read(image: &[u8]) -> u64
     ensures { ReadingCode image.now result }
 {
     match book::read(image) {
-        Reading::Accepted => 0,
-        Reading::Refused(n, place) => broken_code(n, place),
+        Ok(()) => 0,
+        Err(fault) => broken_code(fault),
     }
 }
 
@@ -60,11 +51,11 @@ pub extern "C" fn wizogbare_judge(image: &[u8], set: u64) -> u64
     ensures { JudgementCode image.now set result }
 {
     match engine::judge(image, set) {
-        Judgement::Explains => 0,
-        Judgement::FalseGoal(p) => FALSE_GOAL + p as u64,
-        Judgement::BrokenConstraint(p) => BROKEN_CONSTRAINT + p as u64,
-        Judgement::Broken(n, place) => JUDGE_BROKEN + broken_code(n, place),
-        Judgement::Refused(n) => JUDGE_REFUSED + n as u64,
+        Ok(Judgement::Explains) => 0,
+        Ok(Judgement::FalseGoal(place)) => FALSE_GOAL + u64::from(place),
+        Ok(Judgement::BrokenConstraint(place)) => BROKEN_CONSTRAINT + u64::from(place),
+        Err(NoJudgement::Broken(fault)) => JUDGE_BROKEN + broken_code(fault),
+        Err(NoJudgement::Refused(refusal)) => JUDGE_REFUSED + u64::from(refusal.number()),
     }
 }
 
@@ -78,9 +69,8 @@ pub extern "C" fn wizogbare_list(
     ensures { ListingCode image.now budget sets.old work.old result sets.new work.new }
 {
     match engine::list(image, budget, sets, work) {
-        Listing::Listed(k, n) => NODE_CODES * (k as u64) + n as u64,
-        Listing::Broken(n, place) => LIST_BROKEN + broken_code(n, place),
-        Listing::Refused(m, n) => LIST_REFUSED + NODE_CODES * (m as u64) + n as u64,
+        Ok(listed) => NODE_CODES * u64::from(listed.count) + u64::from(listed.nodes),
+        Err(no) => no_answer_code(no, LIST_REFUSED),
     }
 }
 
@@ -94,10 +84,9 @@ pub extern "C" fn wizogbare_admits(
     ensures { AdmissionCode image.now hypothesis budget work.old result work.new }
 {
     match engine::admits(image, hypothesis, budget, work) {
-        Admission::Admitted(n) => n as u64,
-        Admission::Excluded(n) => EXCLUDED + n as u64,
-        Admission::Broken(n, place) => ADMITS_BROKEN + broken_code(n, place),
-        Admission::Refused(m, n) => ADMITS_REFUSED + NODE_CODES * (m as u64) + n as u64,
+        Ok(Admission::Admitted(nodes)) => u64::from(nodes),
+        Ok(Admission::Excluded(nodes)) => EXCLUDED + u64::from(nodes),
+        Err(no) => no_answer_code(no, ADMITS_REFUSED),
     }
 }
 
@@ -112,12 +101,11 @@ pub extern "C" fn wizogbare_verdict(
     ensures { VerdictCode image.now hypothesis budget sets.old work.old result sets.new work.new }
 {
     match engine::verdict_on(image, hypothesis, budget, sets, work) {
-        Verdict::Unexplained(n) => n as u64,
-        Verdict::Needed(n) => NEEDED + n as u64,
-        Verdict::Possible(n) => POSSIBLE + n as u64,
-        Verdict::RuledOut(n) => RULED_OUT + n as u64,
-        Verdict::Broken(n, place) => VERDICT_BROKEN + broken_code(n, place),
-        Verdict::Refused(m, n) => VERDICT_REFUSED + NODE_CODES * (m as u64) + n as u64,
+        Ok(Verdict::Unexplained(nodes)) => u64::from(nodes),
+        Ok(Verdict::Needed(nodes)) => NEEDED + u64::from(nodes),
+        Ok(Verdict::Possible(nodes)) => POSSIBLE + u64::from(nodes),
+        Ok(Verdict::RuledOut(nodes)) => RULED_OUT + u64::from(nodes),
+        Err(no) => no_answer_code(no, VERDICT_REFUSED),
     }
 }
 
@@ -126,17 +114,18 @@ pub extern "C" fn wizogbare_join(left: &[u64], right: &[u64], out: &mut [u64]) -
     ensures { JoinedCode left.now right.now out.old result out.new }
 {
     match engine::join(left, right, out) {
-        Joined::Count(k) => k as u64,
-        Joined::Refused(n) => NODE_CODES * (n as u64),
+        Ok(count) => u64::from(count),
+        Err(refusal) => refused_code(refusal, 0),
     }
 }
 
-fn writing_code(answer: Writing) -> u64
-    ensures { result ≡ writing_code answer }
+// Of a call that writes bytes.
+fn writing_code(answer: Result<u32, Refusal>) -> u64
+    ensures { result ≡ writing_code (writing answer) }
 {
     match answer {
-        Writing::Written(n) => n as u64,
-        Writing::Refused(n) => NODE_CODES * (n as u64),
+        Ok(bytes) => u64::from(bytes),
+        Err(refusal) => NODE_CODES * u64::from(refusal.number()),
     }
 }
 

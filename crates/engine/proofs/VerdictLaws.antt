@@ -4,7 +4,7 @@ use Prim.Native.Nat.{ℕ, ◌+◌, ◌-◌, ◌<◌}
 use Rattle.std.proofs.Common.{arith, sym, subst, ◌∙◌, inl, inr, ⊎_elim}
 use Rattle.std.proofs.Math.Nat.{sub-zero}
 use Rattle.std.proofs.Math.Path.{◌≡◌, ap, ap₂}
-use Rattle.std.specs.Prelude.{refl, Bool, true, false, ◌⊎◌}
+use Rattle.std.specs.Prelude.{refl, Bool, true, false, ◌⊎◌, Option, Some, None, Ok}
 use mathlib.Core.List.{List, [], ◌∷◌, ◌++◌}
 use Rattle.std.proofs.Math.ListN.{length, take}
 use Rattle.std.proofs.Math.Seq.{take_at}
@@ -23,18 +23,13 @@ use Rattle.searching.specs.paper.Explanations.{Explanations}
 use Rattle.searching.specs.paper.Seek.{Seeking, admitted, excluded, spent, sought}
 use Rattle.lister.specs.paper.Promise.{Result, broken, turned, searched, result_of, answer_of, sets_of, work_of, Explained, Lists}
 use Rattle.lister.specs.PromiseLaws.{Admitted as Admitted'}
-use Rattle.lister.specs.declared.Listing.{Listing}
-use Rattle.lister.specs.declared.Listing.TheVariants as listing
-use Rattle.admitting.specs.paper.Promise.{answer_of as answer_as, searched as searched_as}
+use Rattle.lister.specs.paper.Promise.{Listing}
+use Rattle.lister.specs.paper.Promise as listing
+use Rattle.admitting.specs.paper.Promise.{Admission, Admitted, Excluded, answer_of as answer_as, searched as searched_as}
 use Rattle.admitting.specs.AdmitLaws.{Sought}
-use Rattle.admitting.specs.declared.Admission.{Admission}
-use Rattle.admitting.specs.declared.Admission.TheVariants.{Admitted, Excluded}
-use Rattle.admitting.specs.declared.Admission.TheVariants as admission
-use Rattle.engine.specs.declared.deciding.Settled.{Settled}
-use Rattle.engine.specs.declared.deciding.Settled.TheVariants as settled
-use Rattle.engine.specs.declared.Verdict.{Verdict}
-use Rattle.engine.specs.declared.Verdict.TheVariants.{Needed, Possible, Refused}
-use Rattle.engine.specs.paper.Verdict.{verdict_result, second_of, second, unsettled, by_second, decided, verdict_of, kept, verdict_sets, nodes_of, visited, Meant, Refusal, Verdicts}
+use Rattle.admitting.specs.paper.Promise as admission
+use Rattle.engine.specs.declared.Verdict.{Verdict as Found}
+use Rattle.engine.specs.paper.Verdict.{Verdict, Needed, Possible, Refused, verdict as verdict_as, verdict_result, second_of, second, unsettled, by_second, decided, verdict_of, kept, verdict_sets, nodes_of, visited, Meant, Refusal, Verdicts}
 use Rattle.engine.specs.VerdictLaws.{decided_says, settles, by_settled, is_open, decided_settles, unsettled_settles, Concludable, Seconded, Concluded, work_same}
 
 module _ (b : Book) (o : Orderly b) (h : ℕ) (known : h < b.abducibles) (budget : ℕ) where
@@ -69,28 +64,25 @@ module _ (b : Book) (o : Orderly b) (h : ℕ) (known : h < b.abducibles) (budget
 
 -- ---- after a listing
 
-module _ (image : List ℕ) (h budget : ℕ) (l : List ℕ) (n : ℕ) (list area : List ℕ) (t : Settled) (is : t ≡ settles h l) where
+module _ (image : List ℕ) (h budget : ℕ) (l : List ℕ) (n : ℕ) (list area : List ℕ) (t : Option Found) (is : t ≡ settles h l n) where
   decided_as : (later : Seeking) → by_settled t n later ≡ decided h l n later
-  decided_as later = ap (λ (x : Settled). by_settled x n later) is ∙ decided_settles h l n later
+  decided_as later = ap (λ (x : Option Found). by_settled x n later) is ∙ decided_settles h l n later
 
   unsettled_as : is_open t ≡ unsettled h l
-  unsettled_as = ap is_open is ∙ unsettled_settles h l
+  unsettled_as = ap is_open is ∙ unsettled_settles h l n
 
   -- settled by the list
-  pub concluded_settled : (v : Settled) → t ≡ v → is_open v ≡ false → Concluded image h budget l n list area (by_settled v n (sought (book_in image) h budget)) list area
-  concluded_settled v e shut =
-      let told : by_settled v n (sought (book_in image) h budget) ≡ by_settled t n (sought (book_in image) h budget) =
-      ap (λ (x : Settled). by_settled x n (sought (book_in image) h budget)) (sym e) in
-      record {
-        answer = told ∙ decided_as (sought (book_in image) h budget);
-        sets = ap (λ (x : Bool). kept x (sought (book_in image) h budget) list list) (sym shut ∙ ap is_open (sym e) ∙ unsettled_as);
-        work = refl;
-      }
+  pub concluded_settled : (v : Found) → t ≡ Some v → Concluded image h budget l n list area (verdict_as (Ok v)) list area
+  concluded_settled v e = record {
+    answer = ap (λ (x : Option Found). by_settled x n (sought (book_in image) h budget)) (sym e) ∙ decided_as (sought (book_in image) h budget);
+    sets = ap (λ (x : Bool). kept x (sought (book_in image) h budget) list list) (ap is_open (sym e) ∙ unsettled_as);
+    work = refl;
+  }
 
   -- left open by it
-  pub concluded_open : t ≡ settled.Open → (r : Verdict) (list' area' : List ℕ) → Seconded image h budget n list area r list' area' → Concluded image h budget l n list area r list' area'
+  pub concluded_open : t ≡ None → (r : Verdict) (list' area' : List ℕ) → Seconded image h budget n list area r list' area' → Concluded image h budget l n list area r list' area'
   concluded_open e r list' area' s = record {
-    answer = s.answer ∙ ap (λ (x : Settled). by_settled x n (sought (book_in image) h budget)) (sym e) ∙ decided_as (sought (book_in image) h budget);
+    answer = s.answer ∙ ap (λ (x : Option Found). by_settled x n (sought (book_in image) h budget)) (sym e) ∙ decided_as (sought (book_in image) h budget);
     sets = s.sets ∙ ap (λ (x : Bool). kept x (sought (book_in image) h budget) list list) (ap is_open (sym e) ∙ unsettled_as);
     work = s.work;
   }

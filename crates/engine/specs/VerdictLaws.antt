@@ -2,9 +2,9 @@
 -- ways to a verdict: turned away before any search, or refused by the listing or by the second search.
 -- Assumes nothing.
 use Prim.Native.Nat.{ℕ, ◌+◌, ◌-◌, ◌≤◌, ◌<◌}
-use Rattle.std.proofs.Common.{arith, sym, subst, ◌∙◌, ⊎_elim, lt-ltb, le-ltb, length-append, drop_at}
+use Rattle.std.proofs.Common.{arith, sym, ◌∙◌, ⊎_elim, lt-ltb, le-ltb, length-append, drop_at}
 use Rattle.std.proofs.Math.Path.{◌≡◌, ap, ap₂}
-use Rattle.std.specs.Prelude.{refl, Bool, true, false, ltb, drop}
+use Rattle.std.specs.Prelude.{refl, Bool, true, false, ltb, drop, Option, Some, None, Result as Returned, Ok, Err}
 use mathlib.Core.List.{List, [], ◌∷◌, ◌++◌}
 use Rattle.std.proofs.Math.ListN.{length}
 use Rattle.std.proofs.lemmas.List.{length-replicate}
@@ -29,20 +29,19 @@ use Rattle.searching.proofs.Admitted.{admitted_some, excluded_none}
 use Rattle.searching.proofs.Explaining.{all_explaining, some_explaining, not_all}
 use Rattle.lister.specs.paper.Promise.{most_budget, Result, broken, turned, searched, result_of, answer_of, sets_of, work_of, Lists}
 use Rattle.lister.specs.PromiseLaws.{Admitted as Admitted', Early, admitted_result}
-use Rattle.lister.specs.declared.Asked.{Asked}
-use Rattle.lister.specs.declared.Asked.TheVariants.{Broken as BrokenBook, Turned}
-use Rattle.lister.specs.declared.Listing.{Listing}
-use Rattle.lister.specs.declared.Listing.TheVariants as listing
-use Rattle.admitting.specs.paper.Promise.{answer_of as answer_as, searched as searched_as}
+use Rattle.lister.specs.declared.NoAnswer.{NoAnswer}
+use Rattle.lister.specs.declared.NoAnswer.TheVariants as none
+use Rattle.lister.specs.paper.Promise.{Listing}
+use Rattle.lister.specs.paper.Promise as listing
+use Rattle.image.specs.paper.Refusals.{number_of}
+use Rattle.image.specs.RefusalLaws.{number_tells}
+use Rattle.image.specs.declared.refusals.Refusal.{Refusal as Why}
+use Rattle.admitting.specs.paper.Promise.{Admission, Admitted, Excluded, answer_of as answer_as, searched as searched_as}
+use Rattle.admitting.specs.paper.Promise as admission
 use Rattle.admitting.specs.AdmitLaws.{Seekable, Sought, nodes_in, sought_few}
-use Rattle.admitting.specs.declared.Admission.{Admission}
-use Rattle.admitting.specs.declared.Admission.TheVariants.{Admitted, Excluded}
-use Rattle.admitting.specs.declared.Admission.TheVariants as admission
-use Rattle.engine.specs.declared.deciding.Settled.{Settled}
-use Rattle.engine.specs.declared.deciding.Settled.TheVariants as settled
-use Rattle.engine.specs.declared.Verdict.{Verdict}
-use Rattle.engine.specs.declared.Verdict.TheVariants.{Unexplained, Needed, Possible, RuledOut, Broken, Refused}
-use Rattle.engine.specs.paper.Verdict.{named, asked, verdict_result, second, unsettled, by_second, decided, verdict_of, kept, verdict_sets, Explainable, Says, Refusal, Verdicts}
+use Rattle.engine.specs.declared.Verdict.{Verdict as Found}
+use Rattle.engine.specs.declared.Verdict.TheVariants as found
+use Rattle.engine.specs.paper.Verdict.{Verdict, Needed, Possible, RuledOut, Broken, Refused, verdict as verdict_as, named, asked, verdict_result, second, unsettled, by_second, decided, verdict_of, kept, verdict_sets, Explainable, Says, Refusal, Verdicts}
 
 -- two results that meet the promise are equal
 pub verdicts_unique : (image : List ℕ) (h budget : ℕ) (list area : List ℕ) (r q : Verdict) (list₁ area₁ list₂ area₂ : List ℕ)
@@ -50,6 +49,58 @@ pub verdicts_unique : (image : List ℕ) (h budget : ℕ) (list area : List ℕ)
     → (r ≡ q) × (list₁ ≡ list₂) × (area₁ ≡ area₂)
 verdicts_unique image h budget list area r q list₁ area₁ list₂ area₂ a b =
     (a.answer ∙ sym b.answer, a.sets ∙ sym b.sets, a.work ∙ sym b.work)
+
+-- what `verdict_on` returns is told by its verdict, so two of its results that meet the promise are equal too
+pub verdict_tells : (q r : Returned Found NoAnswer) → verdict_as q ≡ verdict_as r → q ≡ r
+verdict_tells (Ok (found.Unexplained m)) (Ok (found.Unexplained n)) e = cc
+verdict_tells (Ok (found.Unexplained m)) (Ok (found.Needed n)) e = cc
+verdict_tells (Ok (found.Unexplained m)) (Ok (found.Possible n)) e = cc
+verdict_tells (Ok (found.Unexplained m)) (Ok (found.RuledOut n)) e = cc
+verdict_tells (Ok (found.Unexplained m)) (Err (none.Broken g)) e = cc
+verdict_tells (Ok (found.Unexplained m)) (Err (none.Refused b n)) e = cc
+verdict_tells (Ok (found.Needed m)) (Ok (found.Unexplained n)) e = cc
+verdict_tells (Ok (found.Needed m)) (Ok (found.Needed n)) e = cc
+verdict_tells (Ok (found.Needed m)) (Ok (found.Possible n)) e = cc
+verdict_tells (Ok (found.Needed m)) (Ok (found.RuledOut n)) e = cc
+verdict_tells (Ok (found.Needed m)) (Err (none.Broken g)) e = cc
+verdict_tells (Ok (found.Needed m)) (Err (none.Refused b n)) e = cc
+verdict_tells (Ok (found.Possible m)) (Ok (found.Unexplained n)) e = cc
+verdict_tells (Ok (found.Possible m)) (Ok (found.Needed n)) e = cc
+verdict_tells (Ok (found.Possible m)) (Ok (found.Possible n)) e = cc
+verdict_tells (Ok (found.Possible m)) (Ok (found.RuledOut n)) e = cc
+verdict_tells (Ok (found.Possible m)) (Err (none.Broken g)) e = cc
+verdict_tells (Ok (found.Possible m)) (Err (none.Refused b n)) e = cc
+verdict_tells (Ok (found.RuledOut m)) (Ok (found.Unexplained n)) e = cc
+verdict_tells (Ok (found.RuledOut m)) (Ok (found.Needed n)) e = cc
+verdict_tells (Ok (found.RuledOut m)) (Ok (found.Possible n)) e = cc
+verdict_tells (Ok (found.RuledOut m)) (Ok (found.RuledOut n)) e = cc
+verdict_tells (Ok (found.RuledOut m)) (Err (none.Broken g)) e = cc
+verdict_tells (Ok (found.RuledOut m)) (Err (none.Refused b n)) e = cc
+verdict_tells (Err (none.Broken f)) (Ok (found.Unexplained n)) e = cc
+verdict_tells (Err (none.Broken f)) (Ok (found.Needed n)) e = cc
+verdict_tells (Err (none.Broken f)) (Ok (found.Possible n)) e = cc
+verdict_tells (Err (none.Broken f)) (Ok (found.RuledOut n)) e = cc
+verdict_tells (Err (none.Broken f)) (Err (none.Broken g)) e =
+    let number : number_of f.refusal ≡ number_of g.refusal = cc in
+    let place : f.place ≡ g.place = cc in
+    ap₂ (λ (r : Why) (p : ℕ). Err (none.Broken (record { refusal = r; place = p }))) (number_tells _ _ number) place
+verdict_tells (Err (none.Broken f)) (Err (none.Refused b n)) e = cc
+verdict_tells (Err (none.Refused a m)) (Ok (found.Unexplained n)) e = cc
+verdict_tells (Err (none.Refused a m)) (Ok (found.Needed n)) e = cc
+verdict_tells (Err (none.Refused a m)) (Ok (found.Possible n)) e = cc
+verdict_tells (Err (none.Refused a m)) (Ok (found.RuledOut n)) e = cc
+verdict_tells (Err (none.Refused a m)) (Err (none.Broken g)) e = cc
+verdict_tells (Err (none.Refused a m)) (Err (none.Refused b n)) e =
+    let number : number_of a ≡ number_of b = cc in
+    let nodes : m ≡ n = cc in
+    ap₂ (λ (r : Why) (k : ℕ). Err (none.Refused r k)) (number_tells _ _ number) nodes
+
+pub results_unique : (image : List ℕ) (h budget : ℕ) (list area : List ℕ) (r q : Returned Found NoAnswer) (list₁ area₁ list₂ area₂ : List ℕ)
+    → Verdicts image h budget list area (verdict_as r) list₁ area₁ → Verdicts image h budget list area (verdict_as q) list₂ area₂
+    → (r ≡ q) × (list₁ ≡ list₂) × (area₁ ≡ area₂)
+results_unique image h budget list area r q list₁ area₁ list₂ area₂ a b =
+    let u = verdicts_unique image h budget list area (verdict_as r) (verdict_as q) list₁ area₁ list₂ area₂ a b in
+    (verdict_tells r q u.0, u.1, u.2)
 
 -- ---- what is decided is so
 
@@ -90,30 +141,26 @@ module _ (b : Book) (o : Orderly b) (h : ℕ) (known : h < b.abducibles) (budget
 -- ---- the ways to a verdict
 
 module _ (image : List ℕ) (h budget : ℕ) (list area : List ℕ) where
-  turned_away : (n : ℕ) → verdict_result image h budget (length list) (length area) ≡ turned n → Verdicts image h budget list area (Refused n 0) list area
-  turned_away n e = record {
-    answer = ap (λ (x : Result). verdict_of h x (second image h budget)) (sym e);
+  turned_away : (n m : ℕ) → verdict_result image h budget (length list) (length area) ≡ turned n → m ≡ 0 → Verdicts image h budget list area (Refused n m) list area
+  turned_away n m e z = record {
+    answer = ap (Refused n) z ∙ ap (λ (x : Result). verdict_of h x (second image h budget)) (sym e);
     sets = ap (λ (x : Result). verdict_sets h x (second image h budget) list) (sym e);
     work = ap (λ (x : Result). work_of x area) (sym e);
     meaning = λ verdict. absurd (verdict tt);
   }
 
   -- a refusal before any search
-  pub verdict_broken_lem : (n at : ℕ) (r : Asked) → Early image budget (length list) (length area) r → r ≡ BrokenBook n at → Verdicts image h budget list area (Broken n at) list area
+  pub verdict_early : (e : NoAnswer) → Early image budget (length list) (length area) (Err e) → Verdicts image h budget list area (verdict_as (Err e)) list area
   unfolding verdict_result
-  verdict_broken_lem n at r early i =
-      let e : verdict_result image h budget (length list) (length area) ≡ broken n at =
-      ap (asked (named (decode image) h)) (subst (Early image budget (length list) (length area)) i early) in
+  verdict_early (none.Broken f) early =
+      let e : verdict_result image h budget (length list) (length area) ≡ broken (number_of f.refusal) f.place = ap (asked (named (decode image) h)) early in
       record {
         answer = ap (λ (x : Result). verdict_of h x (second image h budget)) (sym e);
         sets = ap (λ (x : Result). verdict_sets h x (second image h budget) list) (sym e);
         work = ap (λ (x : Result). work_of x area) (sym e);
         meaning = λ verdict. absurd (verdict tt);
       }
-
-  pub verdict_early : (n : ℕ) (r : Asked) → Early image budget (length list) (length area) r → r ≡ Turned n → Verdicts image h budget list area (Refused n 0) list area
-  unfolding verdict_result
-  verdict_early n r early i = turned_away n (ap (asked (named (decode image) h)) (subst (Early image budget (length list) (length area)) i early))
+  verdict_early (none.Refused r n) early = turned_away (number_of r) n (ap (asked (named (decode image) h)) early.0) early.1
 
 module _ (image : List ℕ) (h budget room space : ℕ) (a : Admitted' image budget room space) where
   on_book : (t : Bool) → ltb h (book_in image).abducibles ≡ t → verdict_result image h budget room space ≡ asked t (result_of image budget room space)
@@ -136,46 +183,42 @@ hypothesis_small image i h k = let few : (book_in image).abducibles ≤ limits.a
 -- a hypothesis that is none
 pub verdict_unnamed : (image : List ℕ) (h budget : ℕ) (list area : List ℕ) (a : Admitted' image budget (length list) (length area))
     → (book_in image).abducibles ≤ h → Verdicts image h budget list area (Refused 23 0) list area
-verdict_unnamed image h budget list area a k = turned_away image h budget list area 23 (unnamed image h budget (length list) (length area) a k)
+verdict_unnamed image h budget list area a k = turned_away image h budget list area 23 0 (unnamed image h budget (length list) (length area) a k) refl
 
 -- ---- what the list settles
 
--- what it says of the hypothesis, or that it is left open
-abbrev pub settles : ℕ → List ℕ → Settled
-settles h [] = settled.Unexplained
-settles h (s ∷ l) = choose (all (λ (d : ℕ). has d h) (s ∷ l)) settled.Needed (choose (any (λ (d : ℕ). has d h) (s ∷ l)) settled.Possible settled.Open)
+-- the verdict on the hypothesis behind n nodes, or that it is left open
+abbrev pub settles : ℕ → List ℕ → ℕ → Option Found
+settles h [] n = Some (found.Unexplained n)
+settles h (s ∷ l) n = choose (all (λ (d : ℕ). has d h) (s ∷ l)) (Some (found.Needed n)) (choose (any (λ (d : ℕ). has d h) (s ∷ l)) (Some (found.Possible n)) None)
 
 -- a list that is not empty is settled by its tests
-pub settles_by : (h : ℕ) (l : List ℕ) → (length l ≡ 0 → ⊥)
-    → settles h l ≡ choose (all (λ (d : ℕ). has d h) l) settled.Needed (choose (any (λ (d : ℕ). has d h) l) settled.Possible settled.Open)
-settles_by h [] k = absurd (k refl)
-settles_by h (s ∷ l) k = refl
+pub settles_by : (h : ℕ) (l : List ℕ) (n : ℕ) → (length l ≡ 0 → ⊥)
+    → settles h l n ≡ choose (all (λ (d : ℕ). has d h) l) (Some (found.Needed n)) (choose (any (λ (d : ℕ). has d h) l) (Some (found.Possible n)) None)
+settles_by h [] n k = absurd (k refl)
+settles_by h (s ∷ l) n k = refl
 
 -- the verdict by what the list settles
-abbrev pub by_settled : Settled → ℕ → Seeking → Verdict
-by_settled settled.Unexplained n later = Unexplained n
-by_settled settled.Needed n later = Needed n
-by_settled settled.Possible n later = Possible n
-by_settled settled.Open n later = by_second n later
+abbrev pub by_settled : Option Found → ℕ → Seeking → Verdict
+by_settled (Some v) n later = verdict_as (Ok v)
+by_settled None n later = by_second n later
 
-abbrev pub is_open : Settled → Bool
-is_open settled.Unexplained = false
-is_open settled.Needed = false
-is_open settled.Possible = false
-is_open settled.Open = true
+abbrev pub is_open : Option Found → Bool
+is_open (Some v) = false
+is_open None = true
 
-pub decided_settles : (h : ℕ) (l : List ℕ) (n : ℕ) (later : Seeking) → by_settled (settles h l) n later ≡ decided h l n later
+pub decided_settles : (h : ℕ) (l : List ℕ) (n : ℕ) (later : Seeking) → by_settled (settles h l n) n later ≡ decided h l n later
 decided_settles h [] n later = refl
 decided_settles h (s ∷ l) n later = go (all (λ (d : ℕ). has d h) (s ∷ l)) (any (λ (d : ℕ). has d h) (s ∷ l))
   where
-    go : (t u : Bool) → by_settled (choose t settled.Needed (choose u settled.Possible settled.Open)) n later ≡ choose t (Needed n) (choose u (Possible n) (by_second n later))
+    go : (t u : Bool) → by_settled (choose t (Some (found.Needed n)) (choose u (Some (found.Possible n)) None)) n later ≡ choose t (Needed n) (choose u (Possible n) (by_second n later))
     go true u = refl
     go false true = refl
     go false false = refl
 
-pub unsettled_settles : (h : ℕ) (l : List ℕ) → is_open (settles h l) ≡ unsettled h l
-unsettled_settles h [] = refl
-unsettled_settles h (s ∷ l) = go (all test (s ∷ l)) refl (any test (s ∷ l)) refl
+pub unsettled_settles : (h : ℕ) (l : List ℕ) (n : ℕ) → is_open (settles h l n) ≡ unsettled h l
+unsettled_settles h [] n = refl
+unsettled_settles h (s ∷ l) n = go (all test (s ∷ l)) refl (any test (s ∷ l)) refl
   where
     test : ℕ → Bool
     test d = has d h
@@ -184,7 +227,7 @@ unsettled_settles h (s ∷ l) = go (all test (s ∷ l)) refl (any test (s ∷ l)
     in_some : all test (s ∷ l) ≡ true → any test (s ∷ l) ≡ true
     in_some t = some_any test (s ∷ l) (s, here, all_every test (s ∷ l) t s here)
 
-    go : (t : Bool) → all test (s ∷ l) ≡ t → (u : Bool) → any test (s ∷ l) ≡ u → is_open (choose t settled.Needed (choose u settled.Possible settled.Open)) ≡ choose u false true
+    go : (t : Bool) → all test (s ∷ l) ≡ t → (u : Bool) → any test (s ∷ l) ≡ u → is_open (choose t (Some (found.Needed n)) (choose u (Some (found.Possible n)) None)) ≡ choose u false true
     go true t true q = refl
     go true t false q = clash (in_some t) q
     go false t true q = refl
@@ -338,3 +381,8 @@ module _ (image : List ℕ) (h budget : ℕ) (list area list' area' : List ℕ)
         same (searched (finished l k)) q = let z : ◌≡◌ {A = ℕ} 0 1 = cc in absurd (omega arith)
         same (searched (used_up k)) q = refl
         same (searched (no_room k)) q = refl
+
+  -- a listing that gives no answer
+  pub verdict_unlisted : (e : NoAnswer) → Lists image budget list area (listing.listing (Err e)) list' area' → Verdicts image h budget list area (verdict_as (Err e)) list' area'
+  verdict_unlisted (none.Broken f) lists = verdict_at_fault (listing.Broken (number_of f.refusal) f.place) lists _ _ refl
+  verdict_unlisted (none.Refused r n) lists = verdict_refused_lem (listing.Refused (number_of r) n) lists _ _ refl

@@ -1,11 +1,13 @@
 // The verdict from a finished listing: by the list where that settles it, and else by the second search.
 
 ghost use Rattle.std.specs.Prelude.{◌≤◌, length, take};
+ghost use Rattle.engine.specs.paper.Verdict.{verdict};
 ghost use Rattle.engine.specs.VerdictLaws.{Concludable, Seconded, Concluded};
 
 use super::Verdict;
-use super::deciding::{Settled, decide};
+use super::deciding::decide;
 use admitting::{Admission, seek_book};
+use lister::{Listed, NoAnswer};
 
 // The verdict by the second search, behind the listing's nodes. After its 30 the list is all 0.
 fn by_second(
@@ -15,38 +17,36 @@ fn by_second(
     sets: &mut [u64],
     work: &mut [u32],
     nodes: u32,
-) -> Verdict
+) -> Result<Verdict, NoAnswer>
     requires { Concludable image.now hypothesis budget nodes work.old }
-    ensures { Seconded image.now hypothesis budget nodes sets.old work.old result sets.new work.new }
+    ensures { Seconded image.now hypothesis budget nodes sets.old work.old (verdict result) sets.new work.new }
 {
     match seek_book(image, hypothesis, budget, work) {
-        Admission::Admitted(more) => Verdict::Possible(nodes + more),
-        Admission::Excluded(more) => Verdict::RuledOut(nodes + more),
-        Admission::Broken(number, place) => Verdict::Broken(number, place),
-        Admission::Refused(number, more) => {
+        Ok(Admission::Admitted(more)) => Ok(Verdict::Possible(nodes + more)),
+        Ok(Admission::Excluded(more)) => Ok(Verdict::RuledOut(nodes + more)),
+        Err(NoAnswer::Broken(fault)) => Err(NoAnswer::Broken(fault)),
+        Err(NoAnswer::Refused(refusal, more)) => {
             sets::lists::clear(sets, 0);
-            Verdict::Refused(number, nodes + more)
+            Err(NoAnswer::Refused(refusal, nodes + more))
         }
     }
 }
 
-// The verdict by the first `count` sets, which a listing of so many nodes found.
+// The verdict by the first sets, as many as a listing found.
 pub fn conclude(
     image: &[u8],
     hypothesis: u32,
     budget: u32,
     sets: &mut [u64],
     work: &mut [u32],
-    count: u32,
-    nodes: u32,
-) -> Verdict
-    requires { Concludable image.now hypothesis budget nodes work.old × (count ≤ length sets.old) }
-    ensures { Concluded image.now hypothesis budget (take count sets.old) nodes sets.old work.old result sets.new work.new }
+    listed: Listed,
+) -> Result<Verdict, NoAnswer>
+    requires { Concludable image.now hypothesis budget listed.nodes work.old × (listed.count ≤ length sets.old) }
+    ensures { Concluded image.now hypothesis budget (take listed.count sets.old) listed.nodes sets.old work.old (verdict result) sets.new work.new }
 {
-    match decide(sets, count, hypothesis) {
-        Settled::Unexplained => Verdict::Unexplained(nodes),
-        Settled::Needed => Verdict::Needed(nodes),
-        Settled::Possible => Verdict::Possible(nodes),
-        Settled::Open => by_second(image, hypothesis, budget, sets, work, nodes),
+    let nodes = listed.nodes;
+    match decide(&sets[..listed.count as usize], hypothesis, nodes) {
+        Some(settled) => Ok(settled),
+        None => by_second(image, hypothesis, budget, sets, work, nodes),
     }
 }

@@ -1,73 +1,43 @@
 // What the sets of a finished listing settle of a hypothesis.
 
-ghost use Rattle.std.specs.Prelude.{◌≡◌, ◌≤◌, ◌<◌, length, take};
+ghost use Rattle.std.specs.Prelude.{◌≡◌, ◌<◌};
 ghost use Rattle.base.specs.paper.Lists.{all, any};
 ghost use Rattle.image.specs.paper.Faults.{limits};
 ghost use Rattle.base.specs.paper.Members.{has};
 ghost use Rattle.engine.specs.VerdictLaws.{settles};
 
+use super::Verdict;
 use sets::members::is_in;
 
-// What is settled, or that it is left open: there is a set, and none has the hypothesis.
-#[derive(Drop)]
-pub enum Settled {
-    Unexplained,
-    Needed,
-    Possible,
-    Open,
-}
-
-// Whether it is in each of the first `count` sets.
-pub fn in_every(sets: &[u64], count: usize, hypothesis: u32) -> bool
-    requires count_in_bounds { count ≤ length sets.now }
-    requires hypothesis_lt_abducibles { hypothesis < limits.abducibles }
-    ensures { result ≡ all (λ s. has s hypothesis) (take count sets.now) }
+// Whether it is in each of the sets.
+pub fn in_every(sets: &[u64], hypothesis: u32) -> bool
+    requires { hypothesis < limits.abducibles }
+    ensures { result ≡ all (λ s. has s hypothesis) sets.now }
 {
-    let mut i = 0;
-    loop {
-        if i == count {
-            break true;
-        }
-        if !is_in(sets[i], hypothesis) {
-            break false;
-        }
-        i += 1;
-    }
+    sets.iter().all(|s| is_in(*s, hypothesis))
 }
 
 // Whether it is in one of them.
-pub fn in_some(sets: &[u64], count: usize, hypothesis: u32) -> bool
-    requires count_in_bounds { count ≤ length sets.now }
-    requires hypothesis_lt_abducibles { hypothesis < limits.abducibles }
-    ensures { result ≡ any (λ s. has s hypothesis) (take count sets.now) }
+pub fn in_some(sets: &[u64], hypothesis: u32) -> bool
+    requires { hypothesis < limits.abducibles }
+    ensures { result ≡ any (λ s. has s hypothesis) sets.now }
 {
-    let mut i = 0;
-    loop {
-        if i == count {
-            break false;
-        }
-        if is_in(sets[i], hypothesis) {
-            break true;
-        }
-        i += 1;
-    }
+    sets.iter().any(|s| is_in(*s, hypothesis))
 }
 
-// What the first `count` sets settle.
-pub fn decide(sets: &[u64], count: u32, hypothesis: u32) -> Settled
-    requires count_in_bounds { count ≤ length sets.now }
-    requires hypothesis_lt_abducibles { hypothesis < limits.abducibles }
-    ensures { result ≡ settles hypothesis (take count sets.now) }
+// The verdict that the sets settle, behind so many nodes. It is left open where there is a set and none has the hypothesis.
+pub fn decide(sets: &[u64], hypothesis: u32, nodes: u32) -> Option<Verdict>
+    requires { hypothesis < limits.abducibles }
+    ensures { result ≡ settles hypothesis sets.now nodes }
 {
-    let n = count as usize;
-    if count == 0 {
-        return Settled::Unexplained;
+    if sets.is_empty() {
+        return Some(Verdict::Unexplained(nodes));
     }
-    if in_every(sets, n, hypothesis) {
-        return Settled::Needed;
+    if in_every(sets, hypothesis) {
+        return Some(Verdict::Needed(nodes));
     }
-    if in_some(sets, n, hypothesis) {
-        return Settled::Possible;
+    if in_some(sets, hypothesis) {
+        return Some(Verdict::Possible(nodes));
     }
-    Settled::Open
+    None
 }

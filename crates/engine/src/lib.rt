@@ -2,53 +2,60 @@
 // it ends with an answer or a numbered refusal. The promises stand in specs/paper of the crates that keep them. The reader is `book::read`.
 #![tactic(auto)]
 
-ghost use Rattle.judging.specs.paper.Judged.{Judges};
-ghost use Rattle.lister.specs.paper.Promise.{Lists};
-ghost use Rattle.admitting.specs.paper.Promise.{Admits};
-ghost use Rattle.engine.specs.paper.Verdict.{Verdicts};
-ghost use Rattle.joiner.specs.paper.Join.{Joins};
+ghost use Rattle.judging.specs.paper.Judged.{judgement, Judges};
+ghost use Rattle.lister.specs.paper.Promise.{listing, Lists};
+ghost use Rattle.admitting.specs.paper.Promise.{admission, Admits};
+ghost use Rattle.engine.specs.paper.Verdict.{verdict, Verdicts};
+ghost use Rattle.joiner.specs.paper.Join.{joined, Joins};
 
 pub use admitting::Admission;
 use image::front;
-pub use joiner::Joined;
-pub use judging::Judgement;
-use lister::Asked;
-pub use lister::Listing;
+use image::refusals::Refusal;
+pub use judging::{Judgement, NoJudgement};
+pub use lister::{Listed, NoAnswer};
 
 mod concluding;
 mod deciding;
 
-// The verdict, or a refusal's number, then the nodes; or the number of the image's own refusal, then its place.
-#[derive(Drop)]
+// The verdict, with the nodes visited.
+#[derive(Clone, Copy, Debug, PartialEq, Eq)]
 pub enum Verdict {
     Unexplained(u32),
     Needed(u32),
     Possible(u32),
     RuledOut(u32),
-    Broken(u8, usize),
-    Refused(u8, u32),
 }
 
 // Whether the set explains; or where it fails: the place of the first goal literal that is false, or with all of them true of the first
 // constraint that is broken; or 1 to 9 with the place, 23.
-pub fn judge(image: &[u8], set: u64) -> Judgement
-    ensures { Judges image.now set result }
+pub fn judge(image: &[u8], set: u64) -> Result<Judgement, NoJudgement>
+    ensures { Judges image.now set (judgement result) }
 {
     judging::judge(image, set)
 }
 
 // Every smallest set that explains, once, at the front of `sets`, then zeros: how many, and the nodes of the search; or 1 to 9
 // with the place, 20, 21, 22, 30, 31 with the nodes.
-pub fn list(image: &[u8], budget: u32, sets: &mut [u64], work: &mut [u32]) -> Listing
-    ensures { Lists image.now budget sets.old work.old result sets.new work.new }
+pub fn list(
+    image: &[u8],
+    budget: u32,
+    sets: &mut [u64],
+    work: &mut [u32],
+) -> Result<Listed, NoAnswer>
+    ensures { Lists image.now budget sets.old work.old (listing result) sets.new work.new }
 {
     lister::list(image, budget, sets, work)
 }
 
 // Whether some explaining set, of any size, has the hypothesis, or none has, with the nodes of the search; or 1 to 9 with the place, 21, 22, 23,
 // 30 with the nodes.
-pub fn admits(image: &[u8], hypothesis: u32, budget: u32, work: &mut [u32]) -> Admission
-    ensures { Admits image.now hypothesis budget work.old result work.new }
+pub fn admits(
+    image: &[u8],
+    hypothesis: u32,
+    budget: u32,
+    work: &mut [u32],
+) -> Result<Admission, NoAnswer>
+    ensures { Admits image.now hypothesis budget work.old (admission result) work.new }
 {
     admitting::admits(image, hypothesis, budget, work)
 }
@@ -61,30 +68,20 @@ pub fn verdict_on(
     budget: u32,
     sets: &mut [u64],
     work: &mut [u32],
-) -> Verdict
-    ensures { Verdicts image.now hypothesis budget sets.old work.old result sets.new work.new }
+) -> Result<Verdict, NoAnswer>
+    ensures { Verdicts image.now hypothesis budget sets.old work.old (verdict result) sets.new work.new }
 {
-    match lister::before_search(image, budget, sets.len(), work.len()) {
-        Asked::Broken(number, place) => Verdict::Broken(number, place),
-        Asked::Turned(number) => Verdict::Refused(number, 0),
-        Asked::Search => {
-            if front::abducibles(image) <= hypothesis {
-                return Verdict::Refused(23, 0);
-            }
-            match lister::list_book(image, budget, sets, work) {
-                Listing::Broken(number, place) => Verdict::Broken(number, place),
-                Listing::Refused(number, nodes) => Verdict::Refused(number, nodes),
-                Listing::Listed(count, nodes) => concluding::conclude(
-                    image, hypothesis, budget, sets, work, count, nodes,
-                ),
-            }
-        }
+    lister::before_search(image, budget, sets.len(), work.len())?;
+    if front::abducibles(image) <= hypothesis {
+        return Err(NoAnswer::Refused(Refusal::NoAbducible, 0));
     }
+    let listed = lister::list_book(image, budget, sets, work)?;
+    concluding::conclude(image, hypothesis, budget, sets, work, listed)
 }
 
 // Each set of the two lists of which neither list has a proper subset, one time, in order, at the front of `out`, then zeros; or 20, 31.
-pub fn join(left: &[u64], right: &[u64], out: &mut [u64]) -> Joined
-    ensures { Joins left.now right.now out.old result out.new }
+pub fn join(left: &[u64], right: &[u64], out: &mut [u64]) -> Result<u32, Refusal>
+    ensures { Joins left.now right.now out.old (joined result) out.new }
 {
     joiner::join(left, right, out)
 }

@@ -1,29 +1,30 @@
 -- What the reader's functions answer, as steps of the walk.
 -- Assumes nothing.
-use Rattle.std.specs.Prelude.{ℕ, zero, suc, ◌+◌, ◌≡◌, refl}
-use Rattle.std.proofs.Common.{ap}
+use Rattle.std.specs.Prelude.{ℕ, ◌+◌, ◌<◌, ◌≡◌, Result, Ok, Err, ⊤}
 use Rattle.base.specs.paper.Lists.{sum}
-use Rattle.image.specs.paper.Walk.{Step, found, fault, Walk, Finding, fine, wrong, and_then, running}
-use Rattle.faults.specs.declared.fields.Taken.{Taken}
-use Rattle.faults.specs.declared.fields.Taken.TheVariants.{Found, Fault}
+use Rattle.image.specs.paper.Refusals.{number_of}
+use Rattle.image.specs.paper.Walk.{Step, found, fault, Walk, Finding, fine, wrong, field_values, running}
+use Rattle.image.specs.declared.refusals.Refusal.{Refusal}
+use Rattle.image.specs.declared.refusals.Fault.{Fault}
 
-abbrev pub taken : Taken → Step ℕ
-taken (Found x next) = found x next
-taken (Fault n at) = fault n at
+-- a value with the next place, or a fault with its own
+abbrev pub taken : {A : Type 0} → Result (A × ℕ) Fault → Step A
+taken (Ok x) = found x.0 x.1
+taken (Err e) = fault (number_of e.refusal) e.place
 
--- a fault's number, or 0
-abbrev pub finding : ℕ → Finding
-finding zero = fine
-finding (suc n) = wrong (suc n)
+-- the next place alone
+abbrev pub passed : Result ℕ Fault → Step ℕ
+passed (Ok at) = found 0 at
+passed (Err e) = fault (number_of e.refusal) e.place
 
-pub finding_wrong : (n : ℕ) → (n ≡ 0 → ⊥) → finding n ≡ wrong n
-finding_wrong zero h = absurd (h refl)
-finding_wrong (suc n) h = refl
+-- what a test of a value finds
+abbrev pub finding : Result ⊤ Refusal → Finding
+finding (Ok x) = fine
+finding (Err r) = wrong (number_of r)
 
--- what is wrong stays so, whatever stands behind it
-pub finding_first : (n : ℕ) (f next : Finding) → (n ≡ 0 → ⊥) → finding n ≡ f → finding n ≡ and_then f next
-finding_first zero f next h e = absurd (h refl)
-finding_first (suc n) f next h e = ap (λ (g : Finding). and_then g next) e
+-- a test, told by what its calls answer, finds these faults of each value that a field can have
+abbrev pub Finds : (ℕ → Result ⊤ Refusal → Type 0) → (ℕ → Finding) → Type 0
+Finds test faults = (x : ℕ) (r : Result ⊤ Refusal) → x < field_values → test x r → finding r ≡ faults x
 
 -- a step with its value seen through f
 abbrev pub seen : {A : Type 0} → (A → ℕ) → Step A → Step ℕ

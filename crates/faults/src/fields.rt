@@ -1,129 +1,118 @@
 // The image's fields, each tested whole: that it is there (4), then the faults of its value. The answer is the field's value
 // with the next place, or the fault with its place.
 
-ghost use Rattle.std.specs.Prelude.{◌≡◌, true, ◌+◌, ◌-◌, ◌≤◌, ◌<◌, length, leb};
-ghost use Rattle.base.specs.paper.Bools.{choose};
-ghost use Rattle.image.specs.paper.Walk.{field, field_at, fault, tested, field_values};
+ghost use Rattle.std.specs.Prelude.{◌≡◌, ℕ, ◌+◌, ◌-◌, length};
+ghost use Rattle.image.specs.paper.Walk.{Finding, field};
 ghost use Rattle.image.specs.paper.Faults.{limits, wrong_atoms, wrong_abducibles, wrong_count, wrong_lit, wrong_head, wrong_size, wrong_clause, wrong_conditions, wrong_alternative};
-ghost use Rattle.faults.specs.Taking.{taken, finding};
+ghost use Rattle.faults.specs.Taking.{taken, Finds};
 
+use super::totals::{Bodies, Literals};
 use super::values;
 use image::fields::{field_at, is_there};
+use image::refusals::{Fault, Refusal};
 
-#[derive(Drop)]
-pub enum Taken {
-    Found(u32, usize),
-    Fault(u8, usize),
-}
-
-// The field's value, or 0 where it is not there.
-fn peek(image: &[u8], at: usize) -> u32
-    ensures value { leb (at + 2) (length image.now) ≡ true → result ≡ field_at image.now at }
-    ensures small { result < field_values }
-{
-    if is_there(image, at) {
-        return field_at(image, at);
-    }
-    0
-}
-
-// The field whose value is x and has this fault.
-fn tested(image: &[u8], at: usize, x: u32, wrong: u8) -> Taken
-    ensures { taken result ≡ choose (leb (at + 2) (length image.now)) (tested (finding wrong) x at) (fault 4 at) }
+// The field whose value is put to this test, where it is there.
+fn take<F: FnOnce(u32) -> Result<(), Refusal>>(
+    image: &[u8],
+    at: usize,
+    test: F,
+) -> Result<(u32, usize), Fault>
+    requires { F.IsAlwaysCallable test }
+    ensures { (faults : ℕ → Finding) → Finds (F.post test) faults → taken result ≡ field image.now faults at }
 {
     if !is_there(image, at) {
-        return Taken::Fault(4, at);
+        return Err(Fault {
+            refusal: Refusal::Misfit,
+            place: at,
+        });
     }
-    let next = at + 2;
-    if wrong == 0 {
-        return Taken::Found(x, next);
+    let x = field_at(image, at);
+    match test(x) {
+        Ok(()) => Ok((x, at + 2)),
+        Err(refusal) => Err(Fault { refusal, place: at }),
     }
-    Taken::Fault(wrong, at)
 }
 
 // How many bytes there are up to `end`, behind the field at this place.
-pub fn left_behind(end: usize, at: usize) -> usize
+fn left_behind(end: usize, at: usize) -> usize
     ensures { result ≡ end - (at + 2) }
 {
-    if end <= at {
-        return 0;
-    }
-    if end - at < 2 {
-        return 0;
-    }
-    end - at - 2
+    end.saturating_sub(at).saturating_sub(2)
 }
 
-pub fn take_atoms(image: &[u8], at: usize) -> Taken
+pub fn take_atoms(image: &[u8], at: usize) -> Result<(u32, usize), Fault>
     ensures { taken result ≡ field image.now (wrong_atoms limits.atoms) at }
 {
-    let x = peek(image, at);
-    tested(image, at, x, values::wrong_atoms(x))
+    take(image, at, |x| values::wrong_atoms(x))
 }
 
-pub fn take_abducibles(image: &[u8], at: usize, atoms: u32) -> Taken
+pub fn take_abducibles(image: &[u8], at: usize, atoms: u32) -> Result<(u32, usize), Fault>
     ensures { taken result ≡ field image.now (wrong_abducibles limits.abducibles atoms) at }
 {
-    let x = peek(image, at);
-    tested(image, at, x, values::wrong_abducibles(atoms, x))
+    take(image, at, |x| values::wrong_abducibles(atoms, x))
 }
 
-pub fn take_count(image: &[u8], at: usize, most: u32) -> Taken
+pub fn take_count(image: &[u8], at: usize, most: u32) -> Result<(u32, usize), Fault>
     ensures { taken result ≡ field image.now (wrong_count most) at }
 {
-    let x = peek(image, at);
-    tested(image, at, x, values::wrong_count(most, x))
+    take(image, at, |x| values::wrong_count(most, x))
 }
 
-pub fn take_literal(image: &[u8], at: usize, atoms: u32) -> Taken
+pub fn take_literal(image: &[u8], at: usize, atoms: u32) -> Result<(u32, usize), Fault>
     ensures { taken result ≡ field image.now (wrong_lit atoms) at }
 {
-    let x = peek(image, at);
-    tested(image, at, x, values::wrong_literal(atoms, x))
+    take(image, at, |x| values::wrong_literal(atoms, x))
 }
 
-pub fn take_head(image: &[u8], at: usize, atoms: u32, abducibles: u32) -> Taken
+pub fn take_head(
+    image: &[u8],
+    at: usize,
+    atoms: u32,
+    abducibles: u32,
+) -> Result<(u32, usize), Fault>
     ensures { taken result ≡ field image.now (wrong_head atoms abducibles) at }
 {
-    let x = peek(image, at);
-    tested(image, at, x, values::wrong_head(atoms, abducibles, x))
+    take(image, at, |x| values::wrong_head(atoms, abducibles, x))
 }
 
 // A constraint's record length.
-pub fn take_size(image: &[u8], at: usize) -> Taken
+pub fn take_size(image: &[u8], at: usize) -> Result<(u32, usize), Fault>
     ensures { taken result ≡ field image.now (wrong_size (length image.now - (at + 2))) at }
 {
-    let x = peek(image, at);
     let left = left_behind(image.len(), at);
-    tested(image, at, x, values::wrong_size(left, x))
+    take(image, at, |x| values::wrong_size(left, x))
 }
 
 // A clause's record length; the bodies before it have `sum` literals.
-pub fn take_clause_size(image: &[u8], at: usize, sum: u32) -> Taken
-    requires { sum ≤ limits.bodies }
+pub fn take_clause_size(image: &[u8], at: usize, sum: Bodies) -> Result<(u32, usize), Fault>
     ensures { taken result ≡ field image.now (wrong_clause (length image.now - (at + 2)) limits.bodies sum) at }
 {
-    let x = peek(image, at);
     let left = left_behind(image.len(), at);
-    tested(image, at, x, values::wrong_clause(left, sum, x))
+    take(image, at, |x| values::wrong_clause(left, sum, x))
 }
 
 // A condition count of a record that ends at `end`; the constraints before it have `sum` literals.
-pub fn take_conditions(image: &[u8], at: usize, end: usize, sum: u32) -> Taken
-    requires { sum ≤ limits.literals }
+pub fn take_conditions(
+    image: &[u8],
+    at: usize,
+    end: usize,
+    sum: Literals,
+) -> Result<(u32, usize), Fault>
     ensures { taken result ≡ field image.now (wrong_conditions (end - (at + 2)) limits.literals sum) at }
 {
-    let x = peek(image, at);
     let left = left_behind(end, at);
-    tested(image, at, x, values::wrong_conditions(left, sum, x))
+    take(image, at, |x| values::wrong_conditions(left, sum, x))
 }
 
 // An alternative's literal count, likewise.
-pub fn take_alternative(image: &[u8], at: usize, end: usize, sum: u32) -> Taken
-    requires { sum ≤ limits.literals }
+pub fn take_alternative(
+    image: &[u8],
+    at: usize,
+    end: usize,
+    sum: Literals,
+) -> Result<(u32, usize), Fault>
     ensures { taken result ≡ field image.now (wrong_alternative (end - (at + 2)) limits.literals sum) at }
 {
-    let x = peek(image, at);
     let left = left_behind(end, at);
-    tested(image, at, x, values::wrong_alternative(left, sum, x))
+    take(image, at, |x| values::wrong_alternative(left, sum, x))
 }

@@ -214,13 +214,11 @@ module _ (work : List ℕ) (run : Run) (pre : StandingIn work run WAY) where
       subst (λ (p : Run). Moved image work run work p LIST) (sym (e ∙ ap (λ (y : ℕ). giving run LIST y) j))
       (record { holds = λ b all h. way_single h at_way (sym i ∙ z); state = omega arith; nodes = refl; count = refl; later = refl })
 
-  pub chosen_pushed : (v : List ℕ) (p q : Run) (more x : ℕ) → more ≡ get_or work (run.task + 1) 0 → x ≡ get_or v run.task 0 → (more ≡ layout.no_link → ⊥) → Pushed work run more v p → q ≡ giving p LIST x
+  pub chosen_pushed : (v : List ℕ) (p q : Run) (more x : ℕ) → more ≡ get_or work (run.task + 1) 0 → x ≡ get_or work run.task 0 → (more ≡ layout.no_link → ⊥) → Pushed work run more v p → q ≡ giving p LIST x
       → Moves work run v q LIST
   chosen_pushed v p q more x i j nz d e image =
       let is : v ≡ pushed work run (get_or work (run.task + 1) 0) = d.area ∙ ap (pushed work run) i in
-      let same : get_or v run.task 0 ≡ get_or work run.task 0 =
-      ap (λ (l : List ℕ). get_or l run.task 0) is ∙ pushed_below work run (get_or work (run.task + 1) 0) run.task (omega arith) (omega (arith, chain_places.0, chain_pushable.above)) in
-      let becomes : q ≡ giving (risen run) LIST (get_or work run.task 0) = e ∙ ap₂ (λ (o : Run) (y : ℕ). giving o LIST y) d.is (j ∙ same) in
+      let becomes : q ≡ giving (risen run) LIST (get_or work run.task 0) = e ∙ ap₂ (λ (o : Run) (y : ℕ). giving o LIST y) d.is j in
       subst₂ (λ (u : List ℕ) (o : Run). Moved image work run u o LIST) (sym is) (sym becomes)
       (record {
         holds = λ b all h. way_pushed h at_way (λ z. nz (i ∙ z));

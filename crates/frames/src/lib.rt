@@ -3,13 +3,12 @@
 
 ghost use Rattle.std.specs.Prelude.{◌≡◌, ◌+◌, ◌-◌, ◌/◌, ◌≤◌, ◌<◌, length};
 ghost use Rattle.area.specs.Area as layout;
-ghost use Rattle.memory.specs.Places.{bits32};
 ghost use Rattle.memory.specs.States.{LIST, WAY, FAILED};
-ghost use Rattle.memory.specs.Pieces.{Pushable, Pushed, Undoable, undone, restoring, lowered};
+ghost use Rattle.memory.specs.Pieces.{Pushable, Pushed, Undoable, undone, restoring};
 ghost use Rattle.memory.specs.Agreed.{StandingIn, Moves, Backed};
 
 use area::{CELL_WIDTH, FRAME_WIDTH, FRAMES, NO_LINK, NO_MARK, TRAIL_WIDTH};
-use memory::run::{Agenda, LIST, OVER, Run, given, in_state, word};
+use memory::run::{Agenda, Run, State};
 
 // Numbers of 32 bits are below this.
 const BITS32: u64 = 1 << 32;
@@ -27,12 +26,9 @@ const AGENDA_LINK: usize = AGENDA_END + 1;
 
 const WAY_AT: usize = AGENDA_LINK + 1;
 
-// The mark of an atom that is free again.
-const UNMARKED: u32 = NO_MARK as u32;
-
 // Writes a frame with the ways from `more` on.
-fn push(work: &mut [u32], r: Run, more: usize) -> Run
-    requires { Pushable work.old r × (more < bits32) }
+fn push(work: &mut [u32], r: Run, more: u32) -> Run
+    requires { Pushable work.old r }
     ensures { Pushed work.old r more work.new result }
 {
     let f = r.top;
@@ -42,10 +38,11 @@ fn push(work: &mut [u32], r: Run, more: usize) -> Run
     work[f + AGENDA_AT] = r.agenda.at as u32;
     work[f + AGENDA_END] = r.agenda.end as u32;
     work[f + AGENDA_LINK] = r.agenda.link as u32;
-    work[f + WAY_AT] = more as u32;
-    let mut q = r;
-    q.top = f + FRAME_WIDTH;
-    q
+    work[f + WAY_AT] = more;
+    Run {
+        top: f + FRAME_WIDTH,
+        ..r
+    }
 }
 
 // The first way of a chain, with a frame where there are more.
@@ -54,12 +51,21 @@ pub fn choose(work: &mut [u32], r: Run) -> Run
     ensures { Moves work.old r work.new result LIST }
 {
     let way = r.task;
-    let others = word(work, way + 1);
+    let list = work[way] as usize;
+    let others = work[way + 1];
     if others == NO_LINK {
-        return given(r, LIST, word(work, way));
+        return Run {
+            state: State::List,
+            task: list,
+            ..r
+        };
     }
     let q = push(work, r, others);
-    given(q, LIST, word(work, way))
+    Run {
+        state: State::List,
+        task: list,
+        ..q
+    }
 }
 
 // Undoes the marks of the trail from `marked` down to `down`.
@@ -70,16 +76,9 @@ fn undo(work: &mut [u32], marked: usize, down: usize)
     let mut m = marked;
     while down < m {
         m -= TRAIL_WIDTH;
-        let p = word(work, m + CELL_WIDTH) / 2;
-        work[p] = UNMARKED;
+        let literal = work[m + CELL_WIDTH] as usize;
+        work[literal / 2] = NO_MARK;
     }
-}
-
-// A number of 32 bits as one of 64.
-fn long(x: u32) -> u64
-    ensures { (result ≡ x) × (result < bits32) }
-{
-    x as u64
 }
 
 // Marks, set and agenda of the frame at f.
@@ -87,26 +86,19 @@ fn restored(work: &[u32], r: Run, f: usize, down: usize) -> Run
     requires { f + layout.frame_width ≤ length work.now }
     ensures { result ≡ restoring work.now r f down }
 {
-    let low = long(work[f + LOW_AT]);
-    let high = long(work[f + HIGH_AT]);
-    let at = word(work, f + AGENDA_AT);
-    let end = word(work, f + AGENDA_END);
-    let link = word(work, f + AGENDA_LINK);
-    let agenda = Agenda { at, end, link };
-    let mut q = r;
-    q.marked = down;
-    q.set = low + BITS32 * high;
-    q.agenda = agenda;
-    q
-}
-
-// The frames end at `top`.
-fn topped(r: Run, top: usize) -> Run
-    ensures { result ≡ lowered r top }
-{
-    let mut q = r;
-    q.top = top;
-    q
+    let low = u64::from(work[f + LOW_AT]);
+    let high = u64::from(work[f + HIGH_AT]);
+    let agenda = Agenda {
+        at: work[f + AGENDA_AT] as usize,
+        end: work[f + AGENDA_END] as usize,
+        link: work[f + AGENDA_LINK] as usize,
+    };
+    Run {
+        agenda,
+        marked: down,
+        set: low + BITS32 * high,
+        ..r
+    }
 }
 
 // After a failure the newest frame gives its next way, and goes with its last one.
@@ -114,20 +106,25 @@ pub fn back(work: &mut [u32], r: Run) -> Run
     requires { StandingIn work.old r FAILED }
     ensures { Backed work.old r work.new result }
 {
-    let top = r.top;
-    if top == FRAMES {
-        return in_state(r, OVER);
+    if r.top == FRAMES {
+        return Run {
+            state: State::Over,
+            ..r
+        };
     }
-    let f = top - FRAME_WIDTH;
-    let down = word(work, f);
+    let f = r.top - FRAME_WIDTH;
+    let down = work[f] as usize;
     undo(work, r.marked, down);
-    let way = word(work, f + WAY_AT);
-    let more = word(work, way + 1);
-    let list = word(work, way);
-    let q = restored(work, r, f, down);
-    work[f + WAY_AT] = more as u32;
+    let way = work[f + WAY_AT] as usize;
+    let more = work[way + 1];
+    let q = Run {
+        state: State::List,
+        task: work[way] as usize,
+        ..restored(work, r, f, down)
+    };
+    work[f + WAY_AT] = more;
     if more == NO_LINK {
-        return given(topped(q, f), LIST, list);
+        return Run { top: f, ..q };
     }
-    given(q, LIST, list)
+    q
 }

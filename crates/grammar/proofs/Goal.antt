@@ -2,7 +2,7 @@
 -- Assumes nothing.
 use Prim.Native.Nat.{ℕ, zero, suc, ◌+◌, ◌≤◌, ◌<◌}
 use Rattle.std.proofs.Common.{arith, ◌∙◌, length-append, length-drop, eq-eqb, ne_eqb}
-use Rattle.std.specs.Prelude.{◌≡◌, Bool, true, false, ◌&&◌, List, [], ◌∷◌, eqb, length, drop}
+use Rattle.std.specs.Prelude.{◌≡◌, Bool, true, false, ◌&&◌, Option, Some, None, List, [], ◌∷◌, eqb, length, drop}
 use Rattle.std.proofs.Math.Path.{refl, sym, ap}
 use Rattle.base.specs.paper.Bools.{choose}
 use Rattle.base.specs.Bools.{choose_false}
@@ -14,17 +14,17 @@ use Rattle.spelling.specs.Codes.{dot_code, query_code, codes_of}
 use Rattle.spelling.proofs.Sound.{Ok, ok, none, Front, statement_ok}
 use Rattle.spelling.proofs.Complete.{starts}
 use Rattle.grammar.specs.Places.{side_end, statement_end, statements_end, last_dot, ends_with_goal, goal_from, goal_place, place_of}
-use Rattle.grammar.proofs.PlaceLaws.{behind_all, statement_forward, none_behind, no_query}
+use Rattle.grammar.proofs.PlaceLaws.{stands_not, statement_forward, none_behind, no_query}
 use Rattle.grammar.proofs.Reading.{rest_of, tail, drop_next, codes_length, left_none, stands_starts, side_place, statement_place}
 
 -- the same of what is read from a place on
-abbrev place_from : ℕ → Parsed → ℕ
-place_from at unreadable = 0
-place_from at (reads d) = at + suc (length (flat of_statement d.statements))
+abbrev place_from : ℕ → Parsed → Option ℕ
+place_from at unreadable = None
+place_from at (reads d) = Some (at + length (flat of_statement d.statements))
 
 place_from_start : (r : Parsed) → place_from 0 r ≡ place_of r
 place_from_start unreadable = refl
-place_from_start (reads d) = omega arith
+place_from_start (reads d) = ap Some (omega arith)
 
 abbrev empty : List Word → Bool
 empty [] = true
@@ -40,16 +40,16 @@ last_word vs = starts dot vs && empty (tail vs)
 abbrev stopped : Step (List Literal) → Step Document
 stopped st = after (after st (λ ls vs. after (the dot vs) (λ _. give ls))) (λ ls. give (goal_only ls))
 
-goal_read : (at : ℕ) (st : Step (List Literal)) → place_from at (over (stopped st)) ≡ choose (last_word (rest_of st)) (at + 1) 0
+goal_read : (at : ℕ) (st : Step (List Literal)) → place_from at (over (stopped st)) ≡ choose (last_word (rest_of st)) (Some at) None
 unfolding next
 goal_read at nothing = refl
 goal_read at (found ls []) = refl
 goal_read at (found ls (x ∷ vs)) = go (same x dot) vs
   where
     go : (t : Bool) (vs : List Word)
-        → place_from at (over (after (after (turn {A = Unit {0}} t (give tt) never x vs) (λ _. give ls)) (λ ls. give (goal_only ls)))) ≡ choose (t && empty vs) (at + 1) 0
+        → place_from at (over (after (after (turn {A = Unit {0}} t (give tt) never x vs) (λ _. give ls)) (λ ls. give (goal_only ls)))) ≡ choose (t && empty vs) (Some at) None
     go false vs = refl
-    go true [] = refl
+    go true [] = ap Some (omega arith)
     go true (y ∷ vs) = refl
 
 abbrev more : Statement → Document → Document
@@ -61,7 +61,7 @@ more_read : (at p : ℕ) (s : Statement) (st : Step Document) → p ≡ at + len
 more_read at p s nothing e = refl
 more_read at p s (found d (x ∷ vs)) e = refl
 more_read at p s (found d []) e =
-    omega (arith, length-append (of_statement s) (flat of_statement d.statements))
+    ap Some (omega (arith, length-append (of_statement s) (flat of_statement d.statements)))
 
 module _ (names ws : List Word) where
   abbrev codes : List ℕ
@@ -89,16 +89,16 @@ module _ (names ws : List Word) where
       → goal_from codes at ≡ place_from at (over (after (goal_line fuel (drop (at + 1) ws)) (λ ls. give (goal_only ls))))
   unfolding ends_with_goal goal_line
   goal_here at e =
-      ap (λ (t : Bool). choose (t && last_dot codes end) (at + 1) 0) (stands_starts names ws query_code at (omega arith) ∙ e)
-      ∙ ap (λ (t : Bool). choose t (at + 1) 0) (last_dot_lem end ∙ ap last_word (side_place names ws (at + 1)))
+      ap (λ (t : Bool). choose (t && last_dot codes end) (Some at) None) (stands_starts names ws query_code at (omega arith) ∙ e)
+      ∙ ap (λ (t : Bool). choose t (Some at) None) (last_dot_lem end ∙ ap last_word (side_place names ws (at + 1)))
       ∙ sym (goal_read at (side fuel (drop (at + 1) ws)))
     where
       end : ℕ
       end = side_end codes (at + 1)
 
   -- no goal line stands at the end of the words
-  no_goal : (at : ℕ) → length codes ≤ at → goal_from codes at ≡ 0
-  no_goal at h = choose_false (at + 1) 0 (no_query codes at (λ e. omega (arith, e, behind_all codes at h)))
+  no_goal : (at : ℕ) → length codes ≤ at → goal_from codes at ≡ None
+  no_goal at h = choose_false (Some at) None (no_query codes at (stands_not codes query_code at (omega arith) h))
 
   document_place : (n at : ℕ) → at ≤ length codes → goal_from codes (statements_end codes n at) ≡ place_from at (over (document fuel n (drop at ws)))
   unfolding statements_end document next

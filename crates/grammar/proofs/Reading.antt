@@ -20,8 +20,8 @@ use Rattle.spelling.specs.WordLaws.{same_true}
 use Rattle.spelling.proofs.CodeLaws.{fixed_word, code_fixed, code_name}
 use Rattle.spelling.proofs.Sound.{Ok, ok, none, Front, LiteralFine, atom_ok, side_ok}
 use Rattle.spelling.proofs.Complete.{starts, next_other, atom_reads, side_reads}
-use Rattle.grammar.specs.Places.{code_at, stands, word_end, name_end, atom_end, literal_end, separated_end, onward_end, literals_end, side_end, ways_end, conclusion_end, constraint_end, body_end, statement_end}
-use Rattle.grammar.proofs.PlaceLaws.{of_choice, Forward, then_forward, word_forward, literal_forward, literals_forward, separated_forward, conclusion_forward}
+use Rattle.grammar.specs.Places.{code_at, stands, Forward, word_end, name_end, atom_end, literal_end, separated_end, onward_end, literals_end, side_end, ways_end, conclusion_end, constraint_end, body_end, statement_end}
+use Rattle.grammar.proofs.PlaceLaws.{of_choice, then_forward, word_forward, literal_forward, literals_forward, separated_forward, conclusion_forward}
 
 -- the words behind what was found; none are left where nothing was
 abbrev pub rest_of : {A : Type 0} → Step A → List Word

@@ -46,6 +46,18 @@ formed s e =
       few = omega (arith, isMost, length_observed s);
     }
 
+-- ---- the i-th atom
+
+fields_index : (s : List ℕ) (at n i : ℕ) → i < n → get_or (fields_at s at n) i 0 ≡ field_at s (at + 2 * i)
+unfolding fields_at
+fields_index s at zero i h = absurd (omega arith)
+fields_index s at (suc n) zero h = ap (field_at s) (omega arith)
+fields_index s at (suc n) (suc i) h = fields_index s (at + 2) n i (omega arith) ∙ ap (field_at s) (omega arith)
+
+pub observed_index : (s : List ℕ) (i : ℕ) → i < length (observed s) → get_or (observed s) i 0 ≡ field_at s (observed_at + 2 * i)
+unfolding observed
+observed_index s i h = fields_index s observed_at (observed_count s) i (omega (arith, length_observed s))
+
 -- ---- the atoms from the i-th on
 
 unfoldable pub observed_from : List ℕ → ℕ → List ℕ

@@ -1,6 +1,6 @@
 -- What the writing functions require, and what `write` leaves: the image of the book with a group's facts, from the room's front on.
 -- Assumes nothing.
-use Rattle.std.specs.Prelude.{ℕ, ◌+◌, ◌-◌, ◌*◌, ◌/◌, ◌%◌, ◌≤◌, ◌≡◌, true, List, [], ◌∷◌, ◌++◌, length, drop, set}
+use Rattle.std.specs.Prelude.{ℕ, ◌+◌, ◌*◌, ◌/◌, ◌%◌, ◌≤◌, ◌≡◌, true, List, [], ◌∷◌, ◌++◌, length, drop, set}
 use Rattle.std.proofs.Common.{subst, arith}
 use Rattle.base.specs.paper.Lists.{all}
 use Rattle.image.specs.paper.Front.{version, version_at, length_at, atoms_at}
@@ -10,25 +10,13 @@ use Rattle.image.specs.Laid.{laid}
 use Rattle.image.specs.Accepted.{IsBook, book_in}
 use Rattle.image.specs.Encode.{longest_image}
 use Rattle.image.specs.Shown.{clause_count_at, constraint_count_at}
-use Rattle.groups.specs.paper.Group.{well_formed, observed, is_defined, group_image}
+use Rattle.groups.specs.paper.Group.{observed, is_defined, group_image}
 use Rattle.groups.specs.Wrote.{WroteBytes, wrote_byte, wrote_field, wrote_more}
 use Rattle.groups.specs.Pieces.{front_bytes, fact_size, fact_length, fact_bytes}
-
--- the part from `from` to `to` is there, and there is room for it
-pub record Copyable (bytes : List ℕ) (from to : ℕ) (image : List ℕ) (at : ℕ) : Type 0 where
-  pub order : from ≤ to
-  pub within : to ≤ length bytes
-  pub room : at + (to - from) ≤ length image
-
--- room for a fact of each atom
-pub record FactsFit (group image : List ℕ) (at : ℕ) : Type 0 where
-  pub formed : well_formed group ≡ true
-  pub room : at + fact_length * length (observed group) ≤ length image
 
 -- a book, a group that it knows, and room for any image
 pub record Writable (bytes group image : List ℕ) : Type 0 where
   pub book : IsBook bytes
-  pub formed : well_formed group ≡ true
   pub known : all (is_defined (book_in bytes)) (observed group) ≡ true
   pub few : length (book_in bytes).clauses + length (observed group) ≤ limits.clauses
   pub room : longest_image ≤ length image

@@ -3,7 +3,7 @@
 
 pub mod writing;
 
-ghost use Rattle.std.specs.Prelude.{◌≡◌, true, ◌+◌, ◌≤◌, ◌<◌, leb, length};
+ghost use Rattle.std.specs.Prelude.{◌≡◌, true, false, ◌+◌, ◌≤◌, ◌<◌, leb, length, get_or, MatchOption};
 ghost use Rattle.base.specs.paper.Lists.{all};
 ghost use Rattle.image.specs.paper.Walk.{field_at, field_values};
 ghost use Rattle.image.specs.paper.Faults.{limits};
@@ -27,75 +27,75 @@ const MOST_OBSERVED: usize = 32;
 
 const MOST_SIZE: usize = 2 + 2 * MOST_OBSERVED;
 
-// Whether the record is one.
-pub fn is_well_formed(group: &[u8]) -> bool
-    ensures { result ≡ well_formed group.now }
-{
-    let n = group.len();
-    if n < NUMBER {
-        return false;
-    }
-    if group[0] != VERSION {
-        return false;
-    }
-    let size = field_at(group, SIZE) as usize;
-    if size != n - NUMBER {
-        return false;
-    }
-    if size % 2 != 0 {
-        return false;
-    }
-    if size < 2 {
-        return false;
-    }
-    size <= MOST_SIZE
+// A record that is well formed.
+#[derive(Clone, Copy)]
+pub struct Group<'a> {
+    bytes: &'a [u8],
+    ghost formed: { well_formed bytes.now ≡ true },
 }
 
-// The group's number.
-pub fn number(group: &[u8]) -> u32
-    requires { well_formed group.now ≡ true }
-    ensures { (result ≡ field_at group.now number_at) × (result < field_values) }
+fn is_well_formed(bytes: &[u8]) -> bool
+    ensures { result ≡ well_formed bytes.now }
 {
-    field_at(group, NUMBER)
+    if bytes.len() < NUMBER {
+        return false;
+    }
+    let size = field_at(bytes, SIZE) as usize;
+    bytes[0] == VERSION
+        && size == bytes.len() - NUMBER
+        && size % 2 == 0
+        && (2..=MOST_SIZE).contains(&size)
 }
 
-// How many atoms were observed.
-pub fn count(group: &[u8]) -> usize
-    requires { well_formed group.now ≡ true }
-    ensures { (result ≡ length (observed group.now)) × (result ≤ most_observed) }
-{
-    (field_at(group, SIZE) as usize - 2) / 2
-}
-
-// Whether each of them is a defined atom of the book.
-pub fn all_defined(book: &[u8], group: &[u8]) -> bool
-    requires { IsBook book.now × (well_formed group.now ≡ true) }
-    ensures { result ≡ all (is_defined (book_in book.now)) (observed group.now) }
-{
-    let atoms = front::atoms(book);
-    let abducibles = front::abducibles(book);
-    let n = count(group);
-    let mut i = 0;
-    loop {
-        if i == n {
-            break true;
+impl<'a> Group<'a> {
+    // The record as a group, where it is well formed.
+    pub fn read(bytes: &'a [u8]) -> Option<Group<'a>>
+        ensures { MatchOption result (well_formed bytes.now ≡ false) (λ group. group.bytes.now ≡ bytes.now) }
+    {
+        if is_well_formed(bytes) {
+            Some(Group { bytes })
+        } else {
+            None
         }
-        let atom = field_at(group, OBSERVED + 2 * i);
-        if atom < abducibles {
-            break false;
-        }
-        if atoms <= atom {
-            break false;
-        }
-        i += 1;
     }
-}
 
-// Whether the book's clauses and the facts together keep the limit.
-pub fn fits(book: &[u8], group: &[u8]) -> bool
-    requires { IsBook book.now × (well_formed group.now ≡ true) }
-    ensures { result ≡ leb (length (book_in book.now).clauses + length (observed group.now)) limits.clauses }
-{
-    let clauses = field_at(book, front::clauses(book)) as usize;
-    clauses + count(group) <= MOST_CLAUSES as usize
+    // Its number.
+    pub fn number(self) -> u32
+        ensures { (result ≡ field_at self.entry.bytes.now number_at) × (result < field_values) }
+    {
+        field_at(self.bytes, NUMBER)
+    }
+
+    // How many atoms were observed.
+    pub fn count(self) -> usize
+        ensures { (result ≡ length (observed self.entry.bytes.now)) × (result ≤ most_observed) }
+    {
+        (field_at(self.bytes, SIZE) as usize - 2) / 2
+    }
+
+    // The i-th of them.
+    fn atom(self, i: usize) -> u32
+        requires { i < length (observed self.bytes.now) }
+        ensures { (result ≡ get_or (observed self.entry.bytes.now) i 0) × (result < field_values) }
+    {
+        field_at(self.bytes, OBSERVED + 2 * i)
+    }
+
+    // Whether each of them is a defined atom of the book.
+    pub fn all_defined(self, book: &[u8]) -> bool
+        requires { IsBook book.now }
+        ensures { result ≡ all (is_defined (book_in book.now)) (observed self.entry.bytes.now) }
+    {
+        let defined = front::abducibles(book)..front::atoms(book);
+        (0..self.count()).all(|i| defined.contains(&self.atom(i)))
+    }
+
+    // Whether the book's clauses and the facts together keep the limit.
+    pub fn fits(self, book: &[u8]) -> bool
+        requires { IsBook book.now }
+        ensures { result ≡ leb (length (book_in book.now).clauses + length (observed self.entry.bytes.now)) limits.clauses }
+    {
+        let clauses = field_at(book, front::clauses(book)) as usize;
+        clauses + self.count() <= MOST_CLAUSES as usize
+    }
 }

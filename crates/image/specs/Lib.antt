@@ -1,5 +1,7 @@
 -- The rule book's image: the definitions, and the laws on them.
 pub mod paper
+pub mod RefusalLaws
+pub mod WritingLaws
 pub mod Sound
 pub mod WalkLaws
 pub mod FaultLaws

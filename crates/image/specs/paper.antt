@@ -7,4 +7,5 @@ pub mod Faults
 pub mod Loops
 pub mod Decode
 pub mod Spell
+pub mod Refusals
 pub mod Writing

@@ -68,11 +68,8 @@ pub fn constraints(image: &[u8]) -> usize
     let counted = clauses(image);
     let count = field_at(image, counted);
     let mut place = counted + 2;
-    let mut i: u32 = 0;
-    while i < count {
-        let size = field_at(image, place) as usize;
-        place = place + 2 + size;
-        i += 1;
+    for _ in 0..count {
+        place += 2 + field_at(image, place) as usize;
     }
     place
 }

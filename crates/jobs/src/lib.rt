@@ -1,9 +1,8 @@
 // The jobs on books and lists, for the program desk, whose head has what each takes and answers: arguments are taken, and one call made.
 #![tactic(auto)]
 
-use arguments::{files, numbers};
-use cases::{input, output};
-use std::io;
+use arguments::{NoJob, files, numbers};
+use cases::input;
 use std::rt::{Env, Files};
 
 // The places of what a job takes: argument 1 is the job itself.
@@ -15,118 +14,62 @@ const THIRD: usize = 4;
 
 const FOURTH: usize = 5;
 
-pub fn check<R: Env + Files + Input + Print>(rt: &R) -> io::Result<()> {
+pub fn check<R: Env + Files + Input + Print>(rt: &R) -> Result<(), NoJob> {
     let mut image = files::image_buffer();
-    let taken = files::take_file(rt, FIRST, &mut image)?;
-    if !taken.ok {
-        return Ok(());
-    }
-    let n = taken.value;
-    answers::read(rt, &image[..n])
+    let image = files::take_file(rt, FIRST, &mut image)?;
+    answers::read(rt, image)?;
+    Ok(())
 }
 
-pub fn judge<R: Env + Files + Input + Print>(rt: &R) -> io::Result<()> {
+pub fn judge<R: Env + Files + Input + Print>(rt: &R) -> Result<(), NoJob> {
     let mut image = files::image_buffer();
-    let taken = files::take_file(rt, FIRST, &mut image)?;
-    if !taken.ok {
-        return Ok(());
-    }
+    let image = files::take_file(rt, FIRST, &mut image)?;
     let set = numbers::take_set(rt, SECOND)?;
-    if !set.ok {
-        return Ok(());
-    }
-    let n = taken.value;
-    answers::judge(rt, &image[..n], set.value)
+    answers::judge(rt, image, set)?;
+    Ok(())
 }
 
-pub fn list<R: Env + Files + Input + Print>(rt: &R) -> io::Result<()> {
+pub fn list<R: Env + Files + Input + Print>(rt: &R) -> Result<(), NoJob> {
     let mut image = files::image_buffer();
     let mut sets = input::list_buffer();
     let mut work = input::work_buffer();
-    let taken = files::take_file(rt, FIRST, &mut image)?;
-    if !taken.ok {
-        return Ok(());
-    }
+    let image = files::take_file(rt, FIRST, &mut image)?;
     let budget = numbers::take_number(rt, SECOND)?;
-    if !budget.ok {
-        return Ok(());
-    }
-    let room = numbers::take_room(rt, THIRD, input::ENTRIES)?;
-    if !room.ok {
-        return Ok(());
-    }
-    let n = taken.value;
-    let r = room.value;
-    answers::list(rt, &image[..n], budget.value, &mut sets[..r], &mut work)
+    let sets = numbers::take_room(rt, THIRD, &mut sets)?;
+    answers::list(rt, image, budget, sets, &mut work)?;
+    Ok(())
 }
 
-pub fn verdict<R: Env + Files + Input + Print>(rt: &R) -> io::Result<()> {
+pub fn verdict<R: Env + Files + Input + Print>(rt: &R) -> Result<(), NoJob> {
     let mut image = files::image_buffer();
     let mut sets = input::list_buffer();
     let mut work = input::work_buffer();
-    let taken = files::take_file(rt, FIRST, &mut image)?;
-    if !taken.ok {
-        return Ok(());
-    }
+    let image = files::take_file(rt, FIRST, &mut image)?;
     let hypothesis = numbers::take_number(rt, SECOND)?;
-    if !hypothesis.ok {
-        return Ok(());
-    }
     let budget = numbers::take_number(rt, THIRD)?;
-    if !budget.ok {
-        return Ok(());
-    }
-    let room = numbers::take_room(rt, FOURTH, input::ENTRIES)?;
-    if !room.ok {
-        return Ok(());
-    }
-    let n = taken.value;
-    let r = room.value;
-    answers::verdict(
-        rt,
-        &image[..n],
-        hypothesis.value,
-        budget.value,
-        &mut sets[..r],
-        &mut work,
-    )
+    let sets = numbers::take_room(rt, FOURTH, &mut sets)?;
+    answers::verdict(rt, image, hypothesis, budget, sets, &mut work)?;
+    Ok(())
 }
 
-pub fn admits<R: Env + Files + Input + Print>(rt: &R) -> io::Result<()> {
+pub fn admits<R: Env + Files + Input + Print>(rt: &R) -> Result<(), NoJob> {
     let mut image = files::image_buffer();
     let mut work = input::work_buffer();
-    let taken = files::take_file(rt, FIRST, &mut image)?;
-    if !taken.ok {
-        return Ok(());
-    }
+    let image = files::take_file(rt, FIRST, &mut image)?;
     let hypothesis = numbers::take_number(rt, SECOND)?;
-    if !hypothesis.ok {
-        return Ok(());
-    }
     let budget = numbers::take_number(rt, THIRD)?;
-    if !budget.ok {
-        return Ok(());
-    }
-    let n = taken.value;
-    answers::admits(rt, &image[..n], hypothesis.value, budget.value, &mut work)
+    answers::admits(rt, image, hypothesis, budget, &mut work)?;
+    Ok(())
 }
 
-pub fn join<R: Env + Input + Print>(rt: &R) -> io::Result<()> {
+pub fn join<R: Env + Input + Print>(rt: &R) -> Result<(), NoJob> {
     let mut left = input::list_buffer();
     let mut right = input::list_buffer();
     let mut out = input::list_buffer();
-    let room = numbers::take_room(rt, FIRST, input::ENTRIES)?;
-    if !room.ok {
-        return Ok(());
-    }
+    let out = numbers::take_room(rt, FIRST, &mut out)?;
     let mut lists = rt.reader();
-    let n = input::take_list(&mut lists, &mut left);
-    let m = input::take_list(&mut lists, &mut right);
-    if !(n.ok && m.ok) {
-        return output::line(rt, b"unlisted");
-    }
-    let a = n.value;
-    let b = m.value;
-    let c = room.value;
-    answers::join(rt, &left[..a], &right[..b], &mut out[..c])
+    let left = input::take_list(&mut lists, &mut left).map_err(|_| NoJob::Unlisted)?;
+    let right = input::take_list(&mut lists, &mut right).map_err(|_| NoJob::Unlisted)?;
+    answers::join(rt, left, right, out)?;
+    Ok(())
 }

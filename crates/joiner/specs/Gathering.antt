@@ -1,7 +1,7 @@
 -- Gathering: the sets of a list that no kept set and no later one is inside, one after the other. What is gathered is never dropped, and
 -- in the end it is the smallest sets.
 -- Assumes nothing.
-use Rattle.std.specs.Prelude.{◌≡◌, refl, Bool, true, false, ◌⊎◌, ℕ, ◌≤◌, ◌<◌, length}
+use Rattle.std.specs.Prelude.{◌≡◌, refl, Bool, true, false, ◌⊎◌, ℕ, ◌≤◌, ◌<◌, length, Option, MatchOption}
 use Rattle.std.proofs.Common.{sym, subst, ◌∙◌, inl, inr, arith, length-append}
 use Rattle.std.proofs.Math.Path.{ap}
 use mathlib.Core.List.Memᴰ
@@ -22,13 +22,12 @@ unfoldable pub gathered : List ℕ → List ℕ → List ℕ → List ℕ
 gathered behind kept [] = kept
 gathered behind kept (s ∷ l) = gathered behind (choose (any (λ k. inside k s) (kept ++ (l ++ behind))) kept (kept ++ s ∷ [])) l
 
--- r sets are kept and stand in the front of the list; or r is more than its entries, and so are the kept sets
-pub record Fitted (kept : List ℕ) (r : ℕ) (after : List ℕ) : Type 0 where
-  pub fits : r ≤ length after → AtFront kept r after
-  pub more : length after < r → length after < length kept
+-- r is the number of the kept sets, which stand in the front of the list, unless they outnumber its entries
+abbrev pub Fitted : List ℕ → Option ℕ → List ℕ → Type 0
+Fitted kept r after = MatchOption r (length after < length kept) (λ n. AtFront kept n after)
 
 -- the same of some list that has the smallest sets of both lists
-pub record FittedOf (left right : List ℕ) (r : ℕ) (after : List ℕ) : Type 0 where
+pub record FittedOf (left right : List ℕ) (r : Option ℕ) (after : List ℕ) : Type 0 where
   pub kept : List ℕ
   pub keeps : Keeps (λ s. s ∈ left ++ right) kept
   pub fitted : Fitted kept r after

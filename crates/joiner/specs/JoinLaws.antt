@@ -1,6 +1,6 @@
 -- The joiner's laws: its promise fixes the result, and says the same as the words of sets.
 -- Assumes nothing.
-use Rattle.std.specs.Prelude.{◌≡◌, refl, Bool, true, false, ◌||◌, ◌⊎◌, List, [], ◌∷◌, ◌++◌, ℕ, ◌≤◌, ◌<◌, ltb, length}
+use Rattle.std.specs.Prelude.{◌≡◌, refl, Bool, true, false, ◌||◌, ◌⊎◌, List, [], ◌∷◌, ◌++◌, ℕ, ◌≤◌, ◌<◌, ltb, length, Result, Ok, Err}
 use Rattle.std.proofs.Common.{sym, ap, subst, ◌∙◌, inl, inr, ⊎_elim}
 use borrow.Author.Tests.{ltb-true, ltb-false, lt-ltb, le-ltb}
 use Rattle.std.specs.Int.Count.{ones}
@@ -12,12 +12,24 @@ use Rattle.base.specs.Lists.{∈_left, ∈_right, ∈_split}
 use Rattle.sets.specs.paper.Sets.{Proper}
 use Rattle.sets.specs.paper.Kept.{sort, longest}
 use Rattle.sets.specs.KeptLaws.{Keeps, keeps_members, keeps_once, smallest_keeps, smallest_proper, sort_members, sort_ordered, ordered_once, ordered_unique}
-use Rattle.joiner.specs.declared.Joined.{Joined}
-use Rattle.joiner.specs.paper.Join.{joint, Ending, too_long, no_room, result, long, ending, answer_of, entries_of, Joins, Either, Joint, Long, Outcome, refused20, refused31, counted}
+use Rattle.image.specs.declared.refusals.Refusal.{Refusal}
+use Rattle.image.specs.RefusalLaws.{number_tells}
+use Rattle.joiner.specs.paper.Join.{Joined, joined, joint, Ending, too_long, no_room, result, long, ending, answer_of, entries_of, Joins, Either, Joint, Long, Outcome, refused20, refused31, counted}
 
 -- Two results that meet it are equal.
 pub joins_unique : {left right out : List ℕ} {r s : Joined} {a b : List ℕ} → Joins left right out r a → Joins left right out s b → (r ≡ s) × (a ≡ b)
 joins_unique p q = (p.answer ∙ sym q.answer, p.sets ∙ sym q.sets)
+
+-- The answers tell the results apart, so two results of the code that meet it are equal too.
+pub joined_tells : (r s : Result ℕ Refusal) → joined r ≡ joined s → r ≡ s
+joined_tells (Ok m) (Ok n) e = cc
+joined_tells (Ok m) (Err b) e = cc
+joined_tells (Err a) (Ok n) e = cc
+joined_tells (Err a) (Err b) e = ap Err (number_tells a b (cc))
+
+pub results_unique : {left right out : List ℕ} {r s : Result ℕ Refusal} {a b : List ℕ} → Joins left right out (joined r) a → Joins left right out (joined s) b
+    → (r ≡ s) × (a ≡ b)
+results_unique {r = r} {s = s} p q = let same = joins_unique p q in (joined_tells r s same.0, same.1)
 
 -- A result meets it by the way it ends.
 pub joins_by : {left right out : List ℕ} {r : Joined} {after : List ℕ} (e : Ending) → ending left right (length out) ≡ e

@@ -4,6 +4,7 @@ use Prim.Native.Nat.{ℕ, suc, ◌+◌, ◌*◌, ◌≤◌, ◌<◌}
 use mathlib.Core.Path.{◌≡◌, refl, sym, ap, subst, ◌∙◌}
 use mathlib.Core.Bool.{Bool, true, false, ◌||◌}
 use mathlib.Core.List.{List, [], ◌∷◌, ◌++◌}
+use Rattle.std.specs.Prelude.{Some, None}
 use native.Mathlib.Omega.{arith}
 use native.Mathlib.Numerals.{add-one}
 use lib.ListN.{length, get_or, drop, length-append}
@@ -21,8 +22,8 @@ use Rattle.image.proofs.Accepted.{orderly}
 use Rattle.image.specs.Shown.{constraint_count_at, constraint_place, skip, no_constraint}
 use Rattle.meaning.specs.paper.Meaning.{all_true, true_in, value, holds}
 use Rattle.judging.specs.paper.Failing.{first_failing}
-use Rattle.judging.specs.FailingLaws.{failing_none, failing_most, failing_all, failing_not_all, failing_rest, failing_here, not_all_any}
-use Rattle.judging.specs.Notes.{lits_to, lits_of, Ways, Noted}
+use Rattle.judging.specs.FailingLaws.{failing_at, failing_none, failing_all, failing_not_all, failing_rest, failing_here, not_all_any, some_fails, none_fails, fails_some, fails_none}
+use Rattle.judging.specs.Notes.{lits_to, lits_of, Ways}
 use Rattle.image.specs.Places.{shows, record_within, place_next}
 use Rattle.judging.proofs.Image.{lits_stand, part, part_lits}
 use Rattle.judging.proofs.Scan.{get_or_in}
@@ -45,10 +46,10 @@ counted s at ls h =
       lits = lits_stand s (at + 2 + 2 * field_at s at) (at + 2) ls (stands_rest h) (omega arith);
     }
 
--- the literals of the part from the count to their end
-pub counted_part : (s : List ℕ) (at : ℕ) (ls : List Lit) (count : ℕ) → Counted s at ls → count ≡ field_at s at → lits_of (part s at (at + 2 + 2 * count)) ≡ ls
+-- the literals of the part behind the count
+pub counted_part : (s : List ℕ) (at : ℕ) (ls : List Lit) (count : ℕ) → Counted s at ls → count ≡ field_at s at → lits_of (part s (at + 2) (at + 2 + 2 * count)) ≡ ls
 counted_part s at ls count c e =
-    part_lits s at (at + 2 + 2 * count) (omega arith) (omega (arith, c.count, c.within)) (omega arith)
+    part_lits s (at + 2) (at + 2 + 2 * count) (omega arith) (omega (arith, c.count, c.within))
     ∙ ap (λ (n : ℕ). lits_to s (at + 2 + 2 * n) (at + 2)) e
     ∙ c.lits
 
@@ -94,14 +95,13 @@ pub record Left (s : List ℕ) (d at end : ℕ) (ways : List (List Lit)) : Type 
   pub stand : Ways s at end rest
   pub same : any (all_true (value (book_in s) d)) ways ≡ any (all_true (value (book_in s) d)) rest
 
-pub record Tried (s : List ℕ) (d start end at : ℕ) (memo : List ℕ) : Type 0 where
-  pub noted : Noted (book_in s) d memo
+pub record Tried (s : List ℕ) (d start end at : ℕ) : Type 0 where
   pub left : (ways : List (List Lit)) → Ways s start end ways → Left s d at end ways
 
-pub tried_start : (s : List ℕ) (d start end : ℕ) (memo : List ℕ) → Noted (book_in s) d memo → Tried s d start end start memo
-tried_start s d start end memo noted = record { noted = noted; left = λ ways w. record { rest = ways; stand = w; same = refl } }
+pub tried_start : (s : List ℕ) (d start end : ℕ) → Tried s d start end start
+tried_start s d start end = record { left = λ ways w. record { rest = ways; stand = w; same = refl } }
 
-module _ (s : List ℕ) (d start end at : ℕ) (memo : List ℕ) (tried : Tried s d start end at memo) (ways : List (List Lit)) (w : Ways s start end ways) where
+module _ (s : List ℕ) (d start end at : ℕ) (tried : Tried s d start end at) (ways : List (List Lit)) (w : Ways s start end ways) where
   abbrev test : List Lit → Bool
   test = all_true (value (book_in s) d)
 
@@ -122,32 +122,28 @@ module _ (s : List ℕ) (d start end at : ℕ) (memo : List ℕ) (tried : Tried 
     pub tried_first : First s at end rest
     tried_first = first_way s at end rest (tried.left ways w).stand more
 
-    -- the first of them, by the place of its first false literal
-    module _ (count r : ℕ) (e : count ≡ field_at s at) (f : r ≡ first_failing (true_in (value (book_in s) d)) (lits_of (part s at (at + 2 + 2 * count)))) where
-      lits : lits_of (part s at (at + 2 + 2 * count)) ≡ tried_first.first
+    -- the first of them, by whether a literal of it is false
+    module _ (count : ℕ) (e : count ≡ field_at s at) where
+      lits : lits_of (part s (at + 2) (at + 2 + 2 * count)) ≡ tried_first.first
       lits = counted_part s at tried_first.first count tried_first.counted e
-
-      place : r ≡ first_failing (true_in (value (book_in s) d)) tried_first.first
-      place = f ∙ ap (first_failing (true_in (value (book_in s) d))) lits
 
       by : any test ways ≡ (test tried_first.first || any test tried_first.rest)
       by = (tried.left ways w).same ∙ ap (any test) tried_first.split
 
-      pub tried_true : r ≡ count → any test ways ≡ true
+      pub tried_true : failing_at (true_in (value (book_in s) d)) (lits_of (part s (at + 2) (at + 2 + 2 * count))) ≡ None → any test ways ≡ true
       tried_true h =
           by
           ∙ ap (λ (t : Bool). t || any test tried_first.rest)
-          (failing_all (true_in (value (book_in s) d)) tried_first.first (omega (arith, place, e, tried_first.counted.count)))
+          (failing_all (true_in (value (book_in s) d)) tried_first.first
+          (fails_none (true_in (value (book_in s) d)) tried_first.first (ap (failing_at (true_in (value (book_in s) d))) (sym lits) ∙ h)))
 
-      pub tried_false : (r ≡ count → ⊥) → Left s d (at + 2 + 2 * count) end ways
-      tried_false h =
-          let n : count ≡ length tried_first.first = e ∙ tried_first.counted.count in
-          let least : first_failing (true_in (value (book_in s) d)) tried_first.first < length tried_first.first =
-          omega (arith, place, n, h, failing_most (true_in (value (book_in s) d)) tried_first.first) in
+      pub tried_false : (r : ℕ) → failing_at (true_in (value (book_in s) d)) (lits_of (part s (at + 2) (at + 2 + 2 * count))) ≡ Some r → Left s d (at + 2 + 2 * count) end ways
+      tried_false r h =
+          let f = fails_some (true_in (value (book_in s) d)) tried_first.first r (ap (failing_at (true_in (value (book_in s) d))) (sym lits) ∙ h) in
           record {
             rest = tried_first.rest;
             stand = subst (λ (k : ℕ). Ways s (at + 2 + 2 * k) end tried_first.rest) (sym e) tried_first.behind;
-            same = by ∙ ap (λ (t : Bool). t || any test tried_first.rest) (failing_not_all (true_in (value (book_in s) d)) tried_first.first least);
+            same = by ∙ ap (λ (t : Bool). t || any test tried_first.rest) (failing_not_all (true_in (value (book_in s) d)) tried_first.first (omega (arith, f.0, f.1)));
           }
 
 -- ---- the constraint
@@ -187,28 +183,27 @@ standing s e place k m h =
 
 -- ---- what holds
 
--- from the place of the first false literal among the conditions
-module _ (s : List ℕ) (d place : ℕ) (k : Constraint) (here : Standing s place k) (count r : ℕ) (e : count ≡ field_at s (place + 2))
-    (f : r ≡ first_failing (true_in (value (book_in s) d)) (lits_of (part s (place + 2) (place + 2 + 2 + 2 * count)))) where
+-- by whether a literal of the conditions is false
+module _ (s : List ℕ) (d place : ℕ) (k : Constraint) (here : Standing s place k) (count : ℕ) (e : count ≡ field_at s (place + 2)) where
   abbrev v : ℕ → Bool
   v = value (book_in s) d
 
-  place_of : r ≡ first_failing (true_in v) k.conditions
-  place_of = f ∙ ap (first_failing (true_in v)) (counted_part s (place + 2) k.conditions count here.conditions e)
+  conditions : lits_of (part s (place + 2 + 2) (place + 2 + 2 + 2 * count)) ≡ k.conditions
+  conditions = counted_part s (place + 2) k.conditions count here.conditions e
 
-  -- a condition literal is false
-  pub standing_false : r < count → holds v k ≡ true
-  standing_false h =
-      let n : count ≡ length k.conditions = e ∙ here.conditions.count in
+  -- one is false
+  pub standing_false : (r : ℕ) → failing_at (true_in v) (lits_of (part s (place + 2 + 2) (place + 2 + 2 + 2 * count))) ≡ Some r → holds v k ≡ true
+  standing_false r h =
+      let f = fails_some (true_in v) k.conditions r (ap (failing_at (true_in v)) (sym conditions) ∙ h) in
       ap (λ (t : Bool). t || any (all_true v) k.alternatives)
-      (not_all_any (true_in v) k.conditions false (failing_not_all (true_in v) k.conditions (omega (arith, place_of))))
+      (not_all_any (true_in v) k.conditions false (failing_not_all (true_in v) k.conditions (omega (arith, f.0, f.1))))
 
   -- all are true, and the alternatives decide
-  pub standing_true : count ≤ r → holds v k ≡ any (all_true v) k.alternatives
+  pub standing_true : failing_at (true_in v) (lits_of (part s (place + 2 + 2) (place + 2 + 2 + 2 * count))) ≡ None → holds v k ≡ any (all_true v) k.alternatives
   standing_true h =
-      let n : count ≡ length k.conditions = e ∙ here.conditions.count in
       ap (λ (t : Bool). t || any (all_true v) k.alternatives)
-      (not_all_any (true_in v) k.conditions true (failing_all (true_in v) k.conditions (omega (arith, place_of))))
+      (not_all_any (true_in v) k.conditions true
+      (failing_all (true_in v) k.conditions (fails_none (true_in v) k.conditions (ap (failing_at (true_in v)) (sym conditions) ∙ h))))
 
 pub standing_ways : (s : List ℕ) (place : ℕ) (k : Constraint) → Standing s place k → (count size : ℕ) → count ≡ field_at s (place + 2) → size ≡ field_at s place
     → Ways s (place + 2 + 2 + 2 * count) (place + 2 + size) k.alternatives
@@ -218,10 +213,8 @@ standing_ways s place k here count size e f =
 
 -- ---- one constraint after the other
 
-pub record Held (s : List ℕ) (d count place i : ℕ) (memo : List ℕ) : Type 0 where
-  pub noted : Noted (book_in s) d memo
+pub record Held (s : List ℕ) (d count place i : ℕ) : Type 0 where
   pub counted : count ≡ length (book_in s).constraints
-  pub reached : i ≤ count
   pub here : place ≡ constraint_place s i
   pub left : first_failing (holds (value (book_in s) d)) (book_in s).constraints ≡ i + first_failing (holds (value (book_in s) d)) (drop i (book_in s).constraints)
 
@@ -232,23 +225,20 @@ module _ (s : List ℕ) (accepts : IsBook s) (d : ℕ) where
   abbrev test' : Constraint → Bool
   test' = holds (value (book_in s) d)
 
-  pub held_start : (count counted : ℕ) (memo : List ℕ) → Noted (book_in s) d memo → counted ≡ constraint_count_at s → count ≡ field_at s counted → Held s d count (counted + 2) 0 memo
+  pub held_start : (count counted : ℕ) → counted ≡ constraint_count_at s → count ≡ field_at s counted → Held s d count (counted + 2) 0
   unfolding skip
-  held_start count counted memo noted e f =
+  held_start count counted e f =
       record {
-        noted = noted;
         counted = f ∙ ap (field_at s) e ∙ (shows s accepts).constraints;
-        reached = omega arith;
         here = ap (λ (k : ℕ). k + 2) e;
         left = omega arith;
       }
 
-  module _ (count place i : ℕ) (memo : List ℕ) (held : Held s d count place i memo) where
-    pub held_over : count ≤ i → i ≡ first_failing test' ks
+  module _ (count place i : ℕ) (held : Held s d count place i) where
+    pub held_over : i ≡ count → None ≡ failing_at test' ks
     held_over h =
-        let all : i ≡ length ks = omega (arith, held.counted, held.reached) in
-        let none : first_failing test' (drop i ks) ≡ 0 = ap (λ (n : ℕ). first_failing test' (drop n ks)) all ∙ ap (first_failing test') (drop-length ks) ∙ failing_none test' in
-        omega (arith, held.left)
+        let none : first_failing test' (drop i ks) ≡ 0 = ap (λ (n : ℕ). first_failing test' (drop n ks)) (h ∙ held.counted) ∙ ap (first_failing test') (drop-length ks) ∙ failing_none test' in
+        none_fails test' ks (omega (arith, held.left, held.counted, h))
 
     module _ (more : i < count) where
       inside : i < length ks
@@ -257,26 +247,27 @@ module _ (s : List ℕ) (accepts : IsBook s) (d : ℕ) where
       abbrev this : Constraint
       this = get_or ks i no_constraint
 
+      stands : Stands s place (of_constraint this)
+      stands = stands_at (sym held.here) ((shows s accepts).constraint i inside)
+
       -- the constraint that stands here
       pub held_here : (k : Constraint) × k ∈ (book_in s).constraints × Stands s place (of_constraint k)
-      held_here = (this, get_or_in ks i no_constraint inside, stands_at (sym held.here) ((shows s accepts).constraint i inside))
+      held_here = (this, get_or_in ks i no_constraint inside, stands)
 
       pub held_within : place + 2 + field_at s place ≤ length s
-      held_within = record_within s place (of_alternative this.conditions ++ flat of_alternative this.alternatives) (stands_at (sym held.here) ((shows s accepts).constraint i inside))
+      held_within = record_within s place (of_alternative this.conditions ++ flat of_alternative this.alternatives) stands
 
       module _ (r : Bool) (says : (k : Constraint) → k ∈ (book_in s).constraints → Stands s place (of_constraint k) → r ≡ holds (value (book_in s) d) k) where
         same : holds (value (book_in s) d) this ≡ r
-        same = sym (says this (get_or_in ks i no_constraint inside) (stands_at (sym held.here) ((shows s accepts).constraint i inside)))
+        same = sym (says this (get_or_in ks i no_constraint inside) stands)
 
-        pub held_false : r ≡ false → i ≡ first_failing test' ks
-        held_false e = omega (arith, held.left, failing_here test' ks no_constraint i inside (same ∙ e))
+        pub held_false : r ≡ false → Some i ≡ failing_at test' ks
+        held_false e = some_fails test' ks i (omega (arith, held.left, failing_here test' ks no_constraint i inside (same ∙ e))) inside
 
-        pub held_true : (size : ℕ) (now : List ℕ) → size ≡ field_at s place → Noted (book_in s) d now → r ≡ true → Held s d count (place + 2 + size) (i + 1) now
-        held_true size now f noted e =
+        pub held_true : (size : ℕ) → size ≡ field_at s place → r ≡ true → Held s d count (place + 2 + size) (i + 1)
+        held_true size f e =
             record {
-              noted = noted;
               counted = held.counted;
-              reached = omega arith;
               here = place_next s (constraint_count_at s + 2) place i size held.here f;
               left =
                   let one : i + 1 ≡ suc i = add-one i in

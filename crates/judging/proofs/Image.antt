@@ -1,15 +1,14 @@
 -- Where things stand in an accepted image and in its parts, in the words of the judge's contracts.
 -- Assumes nothing.
-use Prim.Native.Nat.{ℕ, zero, suc, ◌+◌, ◌-◌, ◌*◌, ◌/◌, ◌%◌, ◌≤◌, ◌<◌}
+use Prim.Native.Nat.{ℕ, zero, suc, ◌+◌, ◌-◌, ◌*◌, ◌/◌, ◌≤◌, ◌<◌}
 use mathlib.Core.Path.{◌≡◌, refl, sym, ap, ap₂, ◌∙◌}
-use mathlib.Core.Bool.{Bool, true, false, not}
-use mathlib.Core.List.{List, [], ◌∷◌}
+use mathlib.Core.Bool.{Bool, true, false, not, beq}
+use mathlib.Core.List.{List, [], ◌∷◌, ◌++◌}
 use native.Mathlib.Omega.{arith}
-use lib.ListN.{length, get_or, take, drop, length-take, length-drop}
-use lib.Seq.{get_or-take, get_or-drop}
-use lib.Dec.{leb, eqb}
-use borrow.Author.Tests.{leb-true, leb-false}
-use Rattle.base.specs.paper.Bools.{choose}
+use lib.ListN.{length, get_or, take, drop, length-take, length-drop, length-append}
+use lib.Seq.{get_or-take, get_or-drop, take_at}
+use Rattle.std.proofs.Common.{drop_at, add-zero}
+use Rattle.std.proofs.lemmas.List.{take_all}
 use Rattle.image.specs.paper.Book.{Lit}
 use Rattle.image.specs.paper.Walk.{field_at}
 use Rattle.image.specs.paper.Faults.{limits}
@@ -17,9 +16,9 @@ use Rattle.image.specs.paper.Decode.{lit_of}
 use Rattle.image.specs.Spell.{Stands, of_lits}
 use Rattle.image.specs.Accepted.{within, book_in, IsBook}
 use Rattle.image.specs.Shown.{lits_at, lits_at_lem}
+use Rattle.base.specs.paper.Bools.{choose}
 use Rattle.meaning.specs.paper.Meaning.{true_in}
-use Rattle.judging.specs.Notes.{met_at, lits_to, lits_of}
-use Rattle.judging.specs.declared.values.Met.TheVariants.{Literal, End}
+use Rattle.judging.specs.Notes.{lit_at, lits_to, lits_of}
 
 -- ---- literals up to an end
 
@@ -61,55 +60,54 @@ module _ (s : List ℕ) (from to : ℕ) (ordered : from ≤ to) (within : to ≤
       ap₂ ◌∷◌ (ap lit_of (part_field at (omega arith)))
       (part_lits_from n (at + 2) (omega arith) ∙ ap (λ (k : ℕ). lits_at s k n) next)
 
-  -- the literals of a part are those of the image from its second field to its end
-  pub part_lits : from + 2 ≤ to → lits_of (part s from to) ≡ lits_to s to (from + 2)
+  -- the literals of a part are those of the image between its ends
+  pub part_lits : lits_of (part s from to) ≡ lits_to s to from
   unfolding lits_to
-  part_lits h =
-      let n : (length (part s from to) - 2) / 2 ≡ (to - (from + 2)) / 2 = omega (arith, part_length) in
-      ap (lits_at (part s from to) 2) n ∙ part_lits_from ((to - (from + 2)) / 2) 2 (omega arith)
+  part_lits =
+      let n : (length (part s from to) - 0) / 2 ≡ (to - from) / 2 = omega (arith, part_length) in
+      ap (lits_at (part s from to) 0) n ∙ part_lits_from ((to - from) / 2) 0 (omega arith) ∙ ap (λ (k : ℕ). lits_at s k ((to - from) / 2)) (add-zero from)
 
--- ---- what a walk meets
+-- ---- literals, one field after the other
 
-pub record Here (s : List ℕ) (end at : ℕ) (l : Lit) : Type 0 where
-  pub within : at + 2 ≤ end
-  pub lit : lit_of (field_at s at) ≡ l
+pub lits_less : (rest : List ℕ) → length rest < 2 → lits_of rest ≡ []
+lits_less rest h = lits_none rest (length rest) 0 h
 
-pub met_literal : (s : List ℕ) (at p : ℕ) (sign : Bool) → met_at s at ≡ Literal p sign → Here s (length s) at (record { atom = p; sign = sign })
-unfolding met_at
-met_literal s at p sign e = go (leb (at + 2) (length s)) refl e
-  where
-    go : (t : Bool) → leb (at + 2) (length s) ≡ t → choose t (Literal (field_at s at / 2) (eqb (field_at s at % 2) 0)) End ≡ Literal p sign
-        → Here s (length s) at (record { atom = p; sign = sign })
-    go true t q =
-        let atom : field_at s at / 2 ≡ p = cc in
-        let same : eqb (field_at s at % 2) 0 ≡ sign = cc in
-        record { within = leb-true (at + 2) (length s) t; lit = λ i. record { atom = atom i; sign = same i } }
-    go false t q = let no : ◌≡◌ {A = ℕ} 0 1 = cc in absurd (omega arith)
+module _ (rest x more : List ℕ) (split : rest ≡ x ++ more) (two : length x ≡ 2) where
+  long : length rest ≡ 2 + length more
+  long = omega (arith, ap length split, length-append x more)
 
-pub met_end : (s : List ℕ) (at : ℕ) → met_at s at ≡ End → length s < at + 2
-unfolding met_at
-met_end s at e = go (leb (at + 2) (length s)) refl e
-  where
-    go : (t : Bool) → leb (at + 2) (length s) ≡ t → choose t (Literal (field_at s at / 2) (eqb (field_at s at % 2) 0)) End ≡ End → length s < at + 2
-    go true t q = let no : ◌≡◌ {A = ℕ} 0 1 = cc in absurd (omega arith)
-    go false t q = leb-false (at + 2) (length s) t
+  front : part rest 0 2 ≡ x
+  front = ap (take 2) split ∙ take_at x more 2 two
 
--- whether the literal that is met is true, from its atom's value
-pub met_truth : (v : ℕ → Bool) (p : ℕ) (sign x r : Bool) → r ≡ choose sign x (not x) → x ≡ v p → true_in v (record { atom = p; sign = sign }) ≡ r
-met_truth v p sign x r e f = sym (e ∙ ap (λ (y : Bool). choose sign y (not y)) f)
+  back : part rest 2 (length rest) ≡ more
+  back =
+      let size : length rest - 2 ≡ length more = omega (arith, long) in
+      ap₂ take size (ap (drop 2) split ∙ drop_at x more 2 two) ∙ take_all (length more) more (omega arith)
 
--- the same of a part, said of the image
-module _ (s : List ℕ) (from to : ℕ) (ordered : from ≤ to) (within : to ≤ length s) where
-  pub part_met : (at p : ℕ) (sign : Bool) → met_at (part s from to) at ≡ Literal p sign → Here s to (from + at) (record { atom = p; sign = sign })
-  part_met at p sign e =
-      let h = met_literal (part s from to) at p sign e in
-      let w : at + 2 ≤ length (part s from to) = h.within in
-      let n : length (part s from to) ≡ to - from = part_length s from to ordered within in
-      let f : from + at + 2 ≤ to = omega arith in
-      record { within = f; lit = ap lit_of (sym (part_field s from to ordered within at f)) ∙ h.lit }
+  -- the first field is a literal, and the others are behind it
+  pub lits_first : lits_of rest ≡ lit_of (field_at x 0) ∷ lits_of more
+  lits_first =
+      let inside : 2 ≤ length rest = omega (arith, long) in
+      lits_more rest (length rest) 0 inside
+      ∙ ap₂ (λ (n : ℕ) (ls : List Lit). lit_of n ∷ ls)
+      (sym (part_field rest 0 2 (omega arith) inside 0 (omega arith)) ∙ ap (λ (l : List ℕ). field_at l 0) front)
+      (sym (part_lits rest 2 (length rest) inside (omega arith)) ∙ ap lits_of back)
 
-  pub part_end : (at : ℕ) → met_at (part s from to) at ≡ End → to < from + at + 2
-  part_end at e = omega (arith, met_end (part s from to) at e, part_length s from to ordered within)
+-- ---- a literal's truth, by its atom's value
+
+module _ (v : ℕ → Bool) (x : List ℕ) (l : ℕ × Bool) (is : l ≡ lit_at x) (t : Bool) (told : t ≡ v l.0) where
+  by_parts : true_in v (lit_of (field_at x 0)) ≡ choose l.1 t (not t)
+  by_parts =
+      ap (λ (k : ℕ × Bool). choose k.1 (v k.0) (not (v k.0))) (sym is) ∙ ap (λ (u : Bool). choose l.1 u (not u)) (sym told)
+
+  pub literal_is : (r : Bool) → not (beq t l.1) ≡ r → true_in v (lit_of (field_at x 0)) ≡ not r
+  literal_is r e = by_parts ∙ go l.1 t ∙ ap not e
+    where
+      go : (u w : Bool) → choose u w (not w) ≡ not (not (beq w u))
+      go true true = refl
+      go true false = refl
+      go false true = refl
+      go false false = refl
 
 -- ---- limits
 

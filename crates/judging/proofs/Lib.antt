@@ -1,4 +1,4 @@
--- What the proofs share: parts of the image, the memo, the scans of clauses and constraints, and the answer.
+-- What the proofs share: parts of the image, the notes, the scans of clauses and constraints, and the answer.
 pub mod Image
 pub mod Memo
 pub mod Scan

@@ -1,51 +1,63 @@
--- Laws of the memo: an empty one, a note read, a note made.
+-- The notes: none yet, and one more.
 -- Assumes nothing.
 use Prim.Native.Nat.{ℕ, ◌<◌}
-use mathlib.Core.Path.{◌≡◌, refl, sym, ap, subst, ◌∙◌}
+use mathlib.Core.Path.{◌≡◌, refl, sym, ap, ◌∙◌}
 use mathlib.Core.Bool.{Bool, true, false}
-use mathlib.Core.Logic.{◌⊎◌, inl, inr, ⊎_elim}
+use mathlib.Core.Logic.{⊎_elim}
 use mathlib.Core.List.{List}
 use native.Mathlib.Omega.{arith}
 use lib.ListN.{length, get_or, set, replicate, get_or-replicate, length-replicate, get_or-eq_default}
 use lib.Seq.{get_or-set_same, get_or-set_other, set_out}
 use lib.Dec.{eqb, ltb}
 use borrow.Author.Tests.{eqb-true, eqb-false, ltb-true, ltb-false}
+use Rattle.std.specs.Prelude.{Option, Some, None, is_some}
 use Rattle.base.specs.Bools.{decide}
-use Rattle.image.specs.paper.Book.{Book}
+use Rattle.image.specs.Accepted.{book_in, IsBook}
 use Rattle.meaning.specs.paper.Meaning.{value}
-use Rattle.judging.specs.Notes.{note_of, Noted}
+use Rattle.judging.specs.Notes.{Given, Noted}
 
-pub noted_none : (b : Book) (d n : ℕ) → Noted b d (replicate n 0)
-noted_none b d n p =
-    inl
-    (⊎_elim (λ (t : ltb p n ≡ true). get_or-replicate n p 0 0 (ltb-true p n t))
-    (λ (t : ltb p n ≡ false). get_or-eq_default (replicate n 0) 0 (omega (arith, ltb-false p n t, length-replicate {A = ℕ} n 0)))
-    (decide (ltb p n)))
-
--- a note that is there is read as the value
-pub noted_known : (b : Book) (d p : ℕ) (memo : List ℕ) → Noted b d memo → (get_or memo p 0 ≡ 0 → ⊥) → eqb (get_or memo p 0) 2 ≡ value b d p
-noted_known b d p memo noted some =
-    ⊎_elim (λ e. absurd (some e)) (λ e. ap (λ (n : ℕ). eqb n 2) e ∙ two (value b d p)) (noted p)
-  where
-    two : (t : Bool) → eqb (note_of t) 2 ≡ t
-    two true = refl
-    two false = refl
+pub noted_none : (s : List ℕ) (d n : ℕ) → IsBook s → Noted s d (replicate n None)
+noted_none s d n book = record {
+  book = book;
+  true = λ p t e.
+      let none : get_or (replicate {A = Option Bool} n None) p None ≡ None =
+      ⊎_elim (λ (q : ltb p n ≡ true). get_or-replicate n p None None (ltb-true p n q))
+      (λ (q : ltb p n ≡ false). get_or-eq_default (replicate n None) None (omega (arith, ltb-false p n q, length-replicate {A = Option Bool} n None)))
+      (decide (ltb p n)) in
+      let no : ◌≡◌ {A = ℕ} 0 1 = cc in
+      absurd (omega arith);
+}
 
 -- a value that is found and noted
-pub noted_more : (b : Book) (d p x : ℕ) (t : Bool) (memo : List ℕ) → Noted b d memo → t ≡ value b d p → x ≡ note_of t → Noted b d (set memo p x)
-noted_more b d p x t memo noted e f q =
-    ⊎_elim (λ (n : ltb p (length memo) ≡ true). inside (ltb-true p (length memo) n))
-    (λ (n : ltb p (length memo) ≡ false). subst (λ (l : List ℕ). Now l) (sym (set_out memo p x (ltb-false p (length memo) n))) (noted q))
-    (decide (ltb p (length memo)))
+pub noted_more : (s : List ℕ) (d p : ℕ) (t : Bool) (notes : List (Option Bool)) → Noted s d notes → t ≡ value (book_in s) d p → Noted s d (set notes p (Some t))
+noted_more s d p t notes noted e = record { book = noted.book; true = now }
   where
-    Now : List ℕ → Type 0
-    Now l = (get_or l q 0 ≡ 0) ⊎ (get_or l q 0 ≡ note_of (value b d q))
+    now : (q : ℕ) (u : Bool) → get_or (set notes p (Some t)) q None ≡ Some u → u ≡ value (book_in s) d q
+    now q u k =
+        ⊎_elim (λ (n : ltb p (length notes) ≡ true). inside (ltb-true p (length notes) n))
+        (λ (n : ltb p (length notes) ≡ false). noted.true q u (sym (ap (λ (l : List (Option Bool)). get_or l q None) (set_out notes p (Some t) (ltb-false p (length notes) n))) ∙ k))
+        (decide (ltb p (length notes)))
+      where
+        inside : p < length notes → u ≡ value (book_in s) d q
+        inside h =
+            ⊎_elim
+            (λ (n : eqb q p ≡ true).
+            let same : q ≡ p = eqb-true q p n in
+            let here : get_or (set notes p (Some t)) q None ≡ Some t = ap (λ (j : ℕ). get_or (set notes p (Some t)) j None) same ∙ get_or-set_same notes p (Some t) None h in
+            let told : u ≡ t = cc in
+            told ∙ e ∙ ap (value (book_in s) d) (sym same))
+            (λ (n : eqb q p ≡ false). noted.true q u (sym (get_or-set_other notes p q (Some t) None (eqb-false q p n)) ∙ k))
+            (decide (eqb q p))
 
-    inside : p < length memo → Now (set memo p x)
-    inside h =
-        ⊎_elim
-        (λ (n : eqb q p ≡ true).
-        let same : q ≡ p = eqb-true q p n in
-        inr (ap (λ (k : ℕ). get_or (set memo p x) k 0) same ∙ get_or-set_same memo p x 0 h ∙ f ∙ ap note_of (e ∙ ap (value b d) (sym same))))
-        (λ (n : eqb q p ≡ false). subst (λ (k : ℕ). (k ≡ 0) ⊎ (k ≡ note_of (value b d q))) (sym (get_or-set_other memo p q x 0 (eqb-false q p n))) (noted q))
-        (decide (eqb q p))
+-- the values are the same by what the judge was given
+pub same_values : (g h : Given) (s : List ℕ) → g ≡ h → s ≡ h.image → value (book_in g.image) g.set ≡ value (book_in s) h.set
+same_values g h s e f = ap (λ (k : Given). value (book_in k.image) k.set) e ∙ ap (λ (l : List ℕ). value (book_in l) h.set) (sym f)
+
+-- what is told of a place by whether there is one
+pub none_of : (o : Option ℕ) → is_some o ≡ false → o ≡ None
+none_of None e = refl
+none_of (Some x) e = let no : ◌≡◌ {A = ℕ} 0 1 = cc in absurd (omega arith)
+
+pub some_of : (o : Option ℕ) → is_some o ≡ true → (x : ℕ) × (o ≡ Some x)
+some_of None e = let no : ◌≡◌ {A = ℕ} 0 1 = cc in absurd (omega arith)
+some_of (Some x) e = (x, refl)

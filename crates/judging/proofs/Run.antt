@@ -1,59 +1,65 @@
--- The scan of a run of literals for the first false one.
+-- The scan of literals for the first false one.
 -- Assumes nothing.
-use Prim.Native.Nat.{ℕ, suc, ◌+◌, ◌*◌, ◌<◌}
-use mathlib.Core.Path.{◌≡◌, refl, ap, subst, ◌∙◌}
+use Prim.Native.Nat.{ℕ, suc, ◌+◌, ◌<◌}
+use mathlib.Core.Path.{◌≡◌, ap, subst, ◌∙◌}
 use mathlib.Core.Bool.{Bool, true, false}
-use mathlib.Core.List.{List, ◌∷◌}
+use mathlib.Core.List.{List, [], ◌∷◌, ◌++◌}
 use native.Mathlib.Omega.{arith}
 use lib.ListN.{length}
+use Rattle.std.specs.Prelude.{Some, None}
 use Rattle.base.specs.Lists.{every_first, every_rest}
 use Rattle.image.specs.paper.Book.{Lit}
+use Rattle.image.specs.paper.Walk.{field_at}
+use Rattle.image.specs.paper.Decode.{lit_of}
 use Rattle.image.specs.Sound.{Known}
+use Rattle.image.specs.Accepted.{book_in}
 use Rattle.meaning.specs.paper.Meaning.{true_in, value}
 use Rattle.judging.specs.paper.Failing.{first_failing}
-use Rattle.judging.specs.FailingLaws.{failing_none, failing_later, failing_now}
-use Rattle.judging.specs.Notes.{lits_to, lits_of, Noted}
-use Rattle.image.specs.Accepted.{book_in}
-use Rattle.judging.proofs.Image.{lits_none, lits_more, Here}
+use Rattle.judging.specs.FailingLaws.{failing_at, failing_none, failing_later, failing_now, some_fails, none_fails}
+use Rattle.judging.specs.Notes.{lits_of}
+use Rattle.judging.proofs.Image.{lits_less, lits_first}
 
--- the first i literals of the part are true, and the rest stands from `at` on
-pub record Run (s : List ℕ) (d : ℕ) (part : List ℕ) (at i : ℕ) (memo : List ℕ) : Type 0 where
-  pub noted : Noted (book_in s) d memo
-  pub reached : at ≡ 2 + 2 * i
-  pub known : Known (book_in s) (lits_to part (length part) at)
-  pub left : first_failing (true_in (value (book_in s) d)) (lits_of part) ≡ i + first_failing (true_in (value (book_in s) d)) (lits_to part (length part) at)
+-- the first i of these literals are true, and the rest is left
+pub record Run (s : List ℕ) (d : ℕ) (all : List ℕ) (i : ℕ) (rest : List ℕ) : Type 0 where
+  pub known : Known (book_in s) (lits_of rest)
+  pub count : length (lits_of all) ≡ i + length (lits_of rest)
+  pub left : first_failing (true_in (value (book_in s) d)) (lits_of all) ≡ i + first_failing (true_in (value (book_in s) d)) (lits_of rest)
 
-pub run_start : (s : List ℕ) (d : ℕ) (part memo : List ℕ) → Noted (book_in s) d memo → Known (book_in s) (lits_of part) → Run s d part 2 0 memo
-run_start s d part memo noted known = record { noted = noted; reached = refl; known = known; left = omega arith }
+pub run_start : (s : List ℕ) (d : ℕ) (all : List ℕ) → Known (book_in s) (lits_of all) → Run s d all 0 all
+run_start s d all known = record { known = known; count = omega arith; left = omega arith }
 
-module _ (s : List ℕ) (d : ℕ) (part : List ℕ) (at i : ℕ) (memo : List ℕ) (run : Run s d part at i memo) where
+module _ (s : List ℕ) (d : ℕ) (all : List ℕ) (i : ℕ) (rest : List ℕ) (run : Run s d all i rest) where
   abbrev test : Lit → Bool
   test = true_in (value (book_in s) d)
 
-  pub run_over : length part < at + 2 → i ≡ first_failing test (lits_of part)
+  pub run_over : length rest < 2 → None ≡ failing_at test (lits_of all)
   run_over h =
-      let none : first_failing test (lits_to part (length part) at) ≡ 0 = ap (first_failing test) (lits_none part (length part) at h) ∙ failing_none test in
-      omega (arith, run.left)
+      let none : lits_of rest ≡ [] = lits_less rest h in
+      let place : first_failing test (lits_of rest) ≡ 0 = ap (first_failing test) none ∙ failing_none test in
+      none_fails test (lits_of all) (omega (arith, run.count, run.left, ap length none, place))
 
-  module _ (l : Lit) (here : Here part (length part) at l) where
-    split : lits_to part (length part) at ≡ l ∷ lits_to part (length part) (at + 2)
-    split = lits_more part (length part) at here.within ∙ ap (λ (x : Lit). x ∷ lits_to part (length part) (at + 2)) here.lit
+  module _ (x more : List ℕ) (split : rest ≡ x ++ more) (two : length x ≡ 2) where
+    abbrev first : Lit
+    first = lit_of (field_at x 0)
 
-    pub run_known : l.atom < (book_in s).atoms
-    run_known = every_first (subst (Known (book_in s)) split run.known)
+    lits : lits_of rest ≡ first ∷ lits_of more
+    lits = lits_first rest x more split two
 
-    pub run_false : test l ≡ false → i ≡ first_failing test (lits_of part)
+    pub run_known : first.atom < (book_in s).atoms
+    run_known = every_first (subst (Known (book_in s)) lits run.known)
+
+    pub run_false : test first ≡ false → Some i ≡ failing_at test (lits_of all)
     run_false e =
-        let none : first_failing test (lits_to part (length part) at) ≡ 0 = ap (first_failing test) split ∙ failing_now test l (lits_to part (length part) (at + 2)) e in
-        omega (arith, run.left)
+        let place : first_failing test (lits_of rest) ≡ 0 = ap (first_failing test) lits ∙ failing_now test first (lits_of more) e in
+        let size : length (lits_of rest) ≡ suc (length (lits_of more)) = ap length lits in
+        some_fails test (lits_of all) i (omega (arith, run.left, place)) (omega (arith, run.count, size))
 
-    pub run_true : (now : List ℕ) → Noted (book_in s) d now → test l ≡ true → Run s d part (at + 2) (i + 1) now
-    run_true now noted e =
-        let one : first_failing test (lits_to part (length part) at) ≡ suc (first_failing test (lits_to part (length part) (at + 2))) =
-        ap (first_failing test) split ∙ failing_later test l (lits_to part (length part) (at + 2)) e in
+    pub run_true : test first ≡ true → Run s d all (i + 1) more
+    run_true e =
+        let place : first_failing test (lits_of rest) ≡ suc (first_failing test (lits_of more)) = ap (first_failing test) lits ∙ failing_later test first (lits_of more) e in
+        let size : length (lits_of rest) ≡ suc (length (lits_of more)) = ap length lits in
         record {
-          noted = noted;
-          reached = omega (arith, run.reached);
-          known = every_rest (subst (Known (book_in s)) split run.known);
-          left = omega (arith, run.left);
+          known = every_rest (subst (Known (book_in s)) lits run.known);
+          count = omega (arith, run.count, size);
+          left = omega (arith, run.left, place);
         }

@@ -4,7 +4,7 @@
 use Prim.Native.Nat.{ℕ, zero, suc, ◌+◌, ◌*◌, ◌≤◌, ◌<◌}
 use mathlib.Core.Path.{◌≡◌, refl, sym, ap, ap₂, subst, ◌∙◌}
 use mathlib.Core.Bool.{Bool, true, false, ◌&&◌, ◌||◌}
-use mathlib.Core.List.{List, [], ◌∷◌}
+use mathlib.Core.List.{List, [], ◌∷◌, ◌++◌}
 use native.Mathlib.Omega.{arith}
 use native.Mathlib.Numerals.{add-one}
 use lib.ListN.{length, get_or, drop}
@@ -28,9 +28,10 @@ use Rattle.image.proofs.Accepted.{orderly}
 use Rattle.image.specs.Shown.{clause_count_at, clause_place, skip, no_clause}
 use Rattle.meaning.specs.paper.Meaning.{clauses_for, true_in, all_true, some_body, value}
 use Rattle.meaning.proofs.Model.{value_model}
-use Rattle.judging.specs.Notes.{lits_to, Noted}
+use Rattle.image.specs.paper.Decode.{lit_of}
+use Rattle.judging.specs.Notes.{lits_to, lits_of}
 use Rattle.image.specs.Places.{shows}
-use Rattle.judging.proofs.Image.{lits_none, lits_more, lits_stand, Here}
+use Rattle.judging.proofs.Image.{lits_stand, lits_less, lits_first, part, part_lits}
 
 pub get_or_in : {A : Type 0} (l : List A) (i : ℕ) (d : A) → i < length l → get_or l i d ∈ l
 get_or_in [] i d h = absurd (omega arith)
@@ -106,19 +107,15 @@ clausal s place c h =
 
 -- ---- the clause scan
 
-pub record Scan (s : List ℕ) (d p count place i : ℕ) (memo : List ℕ) : Type 0 where
-  pub noted : Noted (book_in s) d memo
+pub record Scan (s : List ℕ) (d p count place i : ℕ) : Type 0 where
   pub counted : count ≡ length (book_in s).clauses
-  pub reached : i ≤ count
   pub here : place ≡ clause_place s i
   pub left : value (book_in s) d p ≡ any (supports (value (book_in s) d) p) (drop i (book_in s).clauses)
 
--- The literal scan, in the part from `head` to `end` of the clause numbered i.
-pub record Read (s : List ℕ) (d p i head end at : ℕ) (memo : List ℕ) : Type 0 where
-  pub noted : Noted (book_in s) d memo
-  pub under : Every (Under s p) (lits_to s end (head + at))
-  pub left : value (book_in s) d p
-      ≡ (all_true (value (book_in s) d) (lits_to s end (head + at)) || any (supports (value (book_in s) d) p) (drop (suc i) (book_in s).clauses))
+-- The literal scan, of what is left of the body of the clause numbered i.
+pub record Read (s : List ℕ) (d p i : ℕ) (rest : List ℕ) : Type 0 where
+  pub under : Every (Under s p) (lits_of rest)
+  pub left : value (book_in s) d p ≡ (all_true (value (book_in s) d) (lits_of rest) || any (supports (value (book_in s) d) p) (drop (suc i) (book_in s).clauses))
 
 module _ (s : List ℕ) (accepts : IsBook s) (d p : ℕ) where
   abbrev v : ℕ → Bool
@@ -127,28 +124,25 @@ module _ (s : List ℕ) (accepts : IsBook s) (d p : ℕ) where
   abbrev cs : List Clause
   cs = (book_in s).clauses
 
-  pub scan_start : (count counted : ℕ) (memo : List ℕ) → Noted (book_in s) d memo → (book_in s).abducibles ≤ p
-      → count ≡ field_at s counted → counted ≡ clause_count_at s → Scan s d p count (counted + 2) 0 memo
+  pub scan_start : (count counted : ℕ) → (book_in s).abducibles ≤ p → count ≡ field_at s counted → counted ≡ clause_count_at s → Scan s d p count (counted + 2) 0
   unfolding skip
-  scan_start count counted memo noted defined e f =
+  scan_start count counted defined e f =
       let sh = shows s accepts in
       record {
-        noted = noted;
         counted = e ∙ ap (field_at s) f ∙ sh.clauses;
-        reached = omega arith;
         here = ap (λ (k : ℕ). k + 2) f;
         left = value_clauses s accepts d p defined;
       }
 
-  module _ (count place i : ℕ) (memo : List ℕ) (scan : Scan s d p count place i memo) where
+  module _ (count place i : ℕ) (scan : Scan s d p count place i) where
     pub scan_over : i ≡ count → value (book_in s) d p ≡ false
     scan_over e =
         scan.left ∙ ap (λ (k : ℕ). any (supports v p) (drop k cs)) (e ∙ scan.counted)
         ∙ ap (any (supports v p)) (drop-length cs)
 
-    module _ (more : i ≡ count → ⊥) where
+    module _ (more : i < count) where
       within : i < length cs
-      within = omega (arith, scan.reached, scan.counted, more)
+      within = omega (arith, scan.counted)
 
       abbrev clause : Clause
       clause = get_or cs i no_clause
@@ -160,36 +154,31 @@ module _ (s : List ℕ) (accepts : IsBook s) (d p : ℕ) where
       split = drop-cons cs i no_clause within
 
       -- on behind this clause, where the rest decides
-      pub scan_behind : (end : ℕ) (now : List ℕ) → end ≡ place + 2 + field_at s place → Noted (book_in s) d now
-          → value (book_in s) d p ≡ any (supports v p) (drop (suc i) cs) → Scan s d p count end (i + 1) now
+      pub scan_behind : (end : ℕ) → end ≡ place + 2 + field_at s place → value (book_in s) d p ≡ any (supports v p) (drop (suc i) cs) → Scan s d p count end (i + 1)
       unfolding skip
-      scan_behind end now e noted rest =
+      scan_behind end e rest =
           let one : suc i ≡ i + 1 = sym (add-one i) in
           record {
-            noted = noted;
             counted = scan.counted;
-            reached = omega (arith, scan.reached, more);
             here = e ∙ ap (λ (k : ℕ). k + 2 + field_at s k) scan.here ∙ ap (clause_place s) one;
             left = rest ∙ ap (λ (k : ℕ). any (supports v p) (drop k cs)) one;
           }
 
       -- a clause for another atom
-      pub scan_other : (end : ℕ) → end ≡ place + 2 + field_at s place → (field_at s (place + 2) ≡ p → ⊥) → Scan s d p count end (i + 1) memo
+      pub scan_other : (end : ℕ) → end ≡ place + 2 + field_at s place → (field_at s (place + 2) ≡ p → ⊥) → Scan s d p count end (i + 1)
       scan_other end e other =
-          scan_behind end memo e scan.noted
+          scan_behind end e
           (scan.left ∙ ap (any (supports v p)) split
           ∙ ap (λ (t : Bool). (t && all_true v clause.body) || any (supports v p) (drop (suc i) cs))
           (ne_eqb clause.head p (λ h. other (scan_clause.head ∙ h))))
 
       -- a clause for p: its literals are read from the first
-      pub scan_enter : (head end : ℕ) → head ≡ place + 2 → end ≡ place + 2 + field_at s place → field_at s (place + 2) ≡ p → Read s d p i head end 2 memo
-      scan_enter head end f e h =
+      pub scan_enter : (from end : ℕ) → from ≡ place + 4 → end ≡ place + 2 + field_at s place → field_at s (place + 2) ≡ p → Read s d p i (part s from end)
+      scan_enter from end f e h =
           let heads : clause.head ≡ p = sym scan_clause.head ∙ h in
-          let four : place + 4 ≡ head + 2 = omega arith in
-          let lits : lits_to s end (head + 2) ≡ clause.body =
-          ap₂ (lits_to s) e (sym four) ∙ scan_clause.body in
+          let lits : lits_of (part s from end) ≡ clause.body =
+          part_lits s from end (omega (arith, scan_clause.headed)) (omega (arith, scan_clause.ended)) ∙ ap₂ (lits_to s) e f ∙ scan_clause.body in
           record {
-            noted = scan.noted;
             under = subst (Every (Under s p)) (sym lits) (subst (λ (q : ℕ). Every (Under s q) clause.body) heads (under s accepts clause (get_or_in cs i no_clause within)));
             left =
                 scan.left ∙ ap (any (supports v p)) split
@@ -198,36 +187,35 @@ module _ (s : List ℕ) (accepts : IsBook s) (d p : ℕ) where
 
 -- ---- the literal scan
 
-module _ (s : List ℕ) (accepts : IsBook s) (d p i head end at : ℕ) (memo : List ℕ) (read : Read s d p i head end at memo) where
-  pub read_over : end < head + at + 2 → value (book_in s) d p ≡ true
+module _ (s : List ℕ) (d p i : ℕ) (rest : List ℕ) (read : Read s d p i rest) where
+  pub read_over : length rest < 2 → value (book_in s) d p ≡ true
   read_over h =
       read.left
-      ∙ ap (λ (ls : List Lit). all_true (value (book_in s) d) ls || any (supports (value (book_in s) d) p) (drop (suc i) (book_in s).clauses)) (lits_none s end (head + at) h)
+      ∙ ap (λ (ls : List Lit). all_true (value (book_in s) d) ls || any (supports (value (book_in s) d) p) (drop (suc i) (book_in s).clauses)) (lits_less rest h)
 
-  module _ (l : Lit) (here : Here s end (head + at) l) where
-    split_lits : lits_to s end (head + at) ≡ l ∷ lits_to s end (head + at + 2)
-    split_lits = lits_more s end (head + at) here.within ∙ ap (λ (x : Lit). x ∷ lits_to s end (head + at + 2)) here.lit
+  module _ (x more : List ℕ) (split : rest ≡ x ++ more) (two : length x ≡ 2) where
+    abbrev first : Lit
+    first = lit_of (field_at x 0)
 
-    pub read_under : Under s p l
-    read_under = every_first (subst (Every (Under s p)) split_lits read.under)
+    lits : lits_of rest ≡ first ∷ lits_of more
+    lits = lits_first rest x more split two
 
-    abbrev rest : Bool
-    rest = any (supports (value (book_in s) d) p) (drop (suc i) (book_in s).clauses)
+    pub read_under : Under s p first
+    read_under = every_first (subst (Every (Under s p)) lits read.under)
+
+    abbrev others : Bool
+    others = any (supports (value (book_in s) d) p) (drop (suc i) (book_in s).clauses)
 
     -- the value by this literal, those behind it, and the clauses behind this one
-    by : value (book_in s) d p ≡ ((true_in (value (book_in s) d) l && all_true (value (book_in s) d) (lits_to s end (head + at + 2))) || rest)
-    by = read.left ∙ ap (λ (ls : List Lit). all_true (value (book_in s) d) ls || rest) split_lits
+    by : value (book_in s) d p ≡ ((true_in (value (book_in s) d) first && all_true (value (book_in s) d) (lits_of more)) || others)
+    by = read.left ∙ ap (λ (ls : List Lit). all_true (value (book_in s) d) ls || others) lits
 
-    pub read_false : true_in (value (book_in s) d) l ≡ false → value (book_in s) d p ≡ rest
-    read_false e = by ∙ ap (λ (t : Bool). (t && all_true (value (book_in s) d) (lits_to s end (head + at + 2))) || rest) e
+    pub read_false : true_in (value (book_in s) d) first ≡ false → value (book_in s) d p ≡ others
+    read_false e = by ∙ ap (λ (t : Bool). (t && all_true (value (book_in s) d) (lits_of more)) || others) e
 
-    pub read_true : (now : List ℕ) → Noted (book_in s) d now → true_in (value (book_in s) d) l ≡ true → Read s d p i head end (at + 2) now
-    read_true now noted e =
-        let next : head + at + 2 ≡ head + (at + 2) = omega arith in
+    pub read_true : true_in (value (book_in s) d) first ≡ true → Read s d p i more
+    read_true e =
         record {
-          noted = noted;
-          under = subst (λ (k : ℕ). Every (Under s p) (lits_to s end k)) next (every_rest (subst (Every (Under s p)) split_lits read.under));
-          left =
-              by ∙ ap (λ (t : Bool). (t && all_true (value (book_in s) d) (lits_to s end (head + at + 2))) || rest) e
-              ∙ ap (λ (k : ℕ). all_true (value (book_in s) d) (lits_to s end k) || rest) next;
+          under = every_rest (subst (Every (Under s p)) lits read.under);
+          left = by ∙ ap (λ (t : Bool). (t && all_true (value (book_in s) d) (lits_of more)) || others) e;
         }

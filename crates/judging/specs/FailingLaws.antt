@@ -1,9 +1,9 @@
 -- Laws of the first member of a list that fails a test.
 -- Assumes nothing.
 use Prim.Native.Nat.{ℕ, suc, ◌≤◌, ◌<◌}
-use Rattle.std.specs.Prelude.{◌≡◌, Bool, not, ◌&&◌, ◌||◌, get_or, drop, ltb}
-use Rattle.std.proofs.Math.Path.{refl, ap}
-use Rattle.std.proofs.Common.{◌∙◌, ⊎_elim, length-append, drop-cons, ltb-true, ltb-false}
+use Rattle.std.specs.Prelude.{◌≡◌, Bool, not, ◌&&◌, ◌||◌, get_or, drop, ltb, Option, Some, None}
+use Rattle.std.proofs.Math.Path.{refl, sym, ap}
+use Rattle.std.proofs.Common.{◌∙◌, ⊎_elim, length-append, drop-cons, ltb-true, ltb-false, lt-ltb, le-ltb}
 use Rattle.std.proofs.Math.Bool.{true, false}
 use mathlib.Core.List.{List, [], ◌∷◌, ◌++◌}
 use native.Mathlib.Omega.{arith}
@@ -13,6 +13,10 @@ use Rattle.base.specs.Bools.{choose_true, choose_false, decide, clash}
 use Rattle.base.specs.paper.Lists.{Every, all, any}
 use Rattle.base.specs.Lists.{every_none, every_more, every_first, every_rest}
 use Rattle.judging.specs.paper.Failing.{first_failing, First}
+
+-- the place of the first member that fails the test, where one does
+abbrev pub failing_at : {A : Type 0} → (A → Bool) → List A → Option ℕ
+failing_at t l = choose (ltb (first_failing t l) (length l)) (Some (first_failing t l)) None
 
 module _ {A : Type 0} where
   module _ (test : A → Bool) where
@@ -108,3 +112,26 @@ module _ {A : Type 0} where
 
     pub failing_here : (l : List A) (d : A) (i : ℕ) → i < length l → test (get_or l i d) ≡ false → first_failing test (drop i l) ≡ 0
     failing_here l d i h e = ap (first_failing test) (drop-cons l i d h) ∙ failing_now (get_or l i d) (drop (suc i) l) e
+
+    pub some_fails : (l : List A) (i : ℕ) → first_failing test l ≡ i → i < length l → Some i ≡ failing_at test l
+    some_fails l i e h =
+        sym
+        (choose_true (Some (first_failing test l)) None (lt-ltb (first_failing test l) (length l) (omega (arith, e)))
+        ∙ ap Some e)
+
+    pub none_fails : (l : List A) → length l ≤ first_failing test l → None ≡ failing_at test l
+    none_fails l h = sym (choose_false (Some (first_failing test l)) None (le-ltb (first_failing test l) (length l) h))
+
+    pub fails_some : (l : List A) (i : ℕ) → failing_at test l ≡ Some i → (first_failing test l ≡ i) × (i < length l)
+    fails_some l i e = go (ltb (first_failing test l) (length l)) refl e
+      where
+        go : (t : Bool) → ltb (first_failing test l) (length l) ≡ t → choose t (Some (first_failing test l)) None ≡ Some i → (first_failing test l ≡ i) × (i < length l)
+        go true q k = let same : first_failing test l ≡ i = cc in (same, omega (arith, same, ltb-true (first_failing test l) (length l) q))
+        go false q k = let no : ◌≡◌ {A = ℕ} 0 1 = cc in absurd (omega arith)
+
+    pub fails_none : (l : List A) → failing_at test l ≡ None → length l ≤ first_failing test l
+    fails_none l e = go (ltb (first_failing test l) (length l)) refl e
+      where
+        go : (t : Bool) → ltb (first_failing test l) (length l) ≡ t → choose t (Some (first_failing test l)) None ≡ None → length l ≤ first_failing test l
+        go true q k = let no : ◌≡◌ {A = ℕ} 0 1 = cc in absurd (omega arith)
+        go false q k = ltb-false (first_failing test l) (length l) q

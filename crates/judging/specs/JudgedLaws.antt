@@ -1,8 +1,8 @@
 -- The judge's promise fixes its answer, and the answer says what is so in words of the meaning.
 -- Assumes nothing.
-use Rattle.std.specs.Prelude.{ℕ, ◌^◌, ◌≡◌, Bool, ◌↔◌, List, length}
+use Rattle.std.specs.Prelude.{ℕ, ◌^◌, ◌≡◌, Bool, ◌↔◌, List, length, Result, Ok, Err}
 use Rattle.std.proofs.Math.Path.{refl, sym, ap}
-use Rattle.std.proofs.Common.{subst, ◌∙◌, inl, inr, ⊎_elim, arith, not-le_of_lt, leb-true, leb-false, ltb-true, ltb-false, lt-ltb, le-ltb}
+use Rattle.std.proofs.Common.{subst, ap₂, ◌∙◌, inl, inr, ⊎_elim, arith, not-le_of_lt, leb-true, leb-false, ltb-true, ltb-false, lt-ltb, le-ltb}
 use Rattle.std.proofs.Math.Bool.{true, false}
 use Rattle.std.proofs.Math.Dec.{leb, ltb}
 use Rattle.std.proofs.lemmas.Bool.{lt-leb}
@@ -17,13 +17,54 @@ use Rattle.image.proofs.Accepted.{orderly}
 use Rattle.judging.specs.FailingLaws.{failing_first, first_failing_lem, failing_all, all_failing}
 use Rattle.meaning.specs.paper.Completion.{Answer}
 use Rattle.meaning.proofs.Entailed.{answer_explains}
-use Rattle.judging.specs.declared.Judgement.{Judgement}
-use Rattle.judging.specs.declared.Judgement.TheVariants.{Explains, FalseGoal, BrokenConstraint, Broken, Refused}
-use Rattle.judging.specs.paper.Judged.{first_false, first_broken, judged_book, judged_of, judged, Judges, Means, Said}
+use Rattle.image.specs.paper.Refusals.{number_of}
+use Rattle.image.specs.RefusalLaws.{number_tells}
+use Rattle.image.specs.declared.refusals.Refusal.{Refusal}
+use Rattle.judging.specs.declared.Judgement.{Judgement as Found}
+use Rattle.judging.specs.declared.Judgement.TheVariants as found
+use Rattle.judging.specs.declared.NoJudgement.{NoJudgement}
+use Rattle.judging.specs.declared.NoJudgement.TheVariants as none
+use Rattle.judging.specs.paper.Judged.{Judgement, Explains, FalseGoal, BrokenConstraint, Broken, Refused, judgement, first_false, first_broken, judged_book, judged_of, judged, Judges, Means, Said}
 
 -- two answers that meet the promise are equal
 pub judges_unique : (s : List ℕ) (d : ℕ) (q r : Judgement) → Judges s d q → Judges s d r → q ≡ r
 judges_unique s d q r h k = h.answer ∙ sym k.answer
+
+-- what `judge` returns is told by its judgement, so two of its results that meet the promise are equal too
+judgement_tells : (q r : Result Found NoJudgement) → judgement q ≡ judgement r → q ≡ r
+judgement_tells (Ok found.Explains) (Ok found.Explains) e = refl
+judgement_tells (Ok found.Explains) (Ok (found.FalseGoal j)) e = cc
+judgement_tells (Ok found.Explains) (Ok (found.BrokenConstraint j)) e = cc
+judgement_tells (Ok found.Explains) (Err (none.Broken g)) e = cc
+judgement_tells (Ok found.Explains) (Err (none.Refused b)) e = cc
+judgement_tells (Ok (found.FalseGoal i)) (Ok found.Explains) e = cc
+judgement_tells (Ok (found.FalseGoal i)) (Ok (found.FalseGoal j)) e = cc
+judgement_tells (Ok (found.FalseGoal i)) (Ok (found.BrokenConstraint j)) e = cc
+judgement_tells (Ok (found.FalseGoal i)) (Err (none.Broken g)) e = cc
+judgement_tells (Ok (found.FalseGoal i)) (Err (none.Refused b)) e = cc
+judgement_tells (Ok (found.BrokenConstraint i)) (Ok found.Explains) e = cc
+judgement_tells (Ok (found.BrokenConstraint i)) (Ok (found.FalseGoal j)) e = cc
+judgement_tells (Ok (found.BrokenConstraint i)) (Ok (found.BrokenConstraint j)) e = cc
+judgement_tells (Ok (found.BrokenConstraint i)) (Err (none.Broken g)) e = cc
+judgement_tells (Ok (found.BrokenConstraint i)) (Err (none.Refused b)) e = cc
+judgement_tells (Err (none.Broken f)) (Ok found.Explains) e = cc
+judgement_tells (Err (none.Broken f)) (Ok (found.FalseGoal j)) e = cc
+judgement_tells (Err (none.Broken f)) (Ok (found.BrokenConstraint j)) e = cc
+judgement_tells (Err (none.Broken f)) (Err (none.Broken g)) e =
+    let number : number_of f.refusal ≡ number_of g.refusal = cc in
+    let place : f.place ≡ g.place = cc in
+    ap₂ (λ (r : Refusal) (p : ℕ). Err (none.Broken (record { refusal = r; place = p }))) (number_tells _ _ number) place
+judgement_tells (Err (none.Broken f)) (Err (none.Refused b)) e = cc
+judgement_tells (Err (none.Refused a)) (Ok found.Explains) e = cc
+judgement_tells (Err (none.Refused a)) (Ok (found.FalseGoal j)) e = cc
+judgement_tells (Err (none.Refused a)) (Ok (found.BrokenConstraint j)) e = cc
+judgement_tells (Err (none.Refused a)) (Err (none.Broken g)) e = cc
+judgement_tells (Err (none.Refused a)) (Err (none.Refused b)) e =
+    let number : number_of a ≡ number_of b = cc in
+    ap (λ (r : Refusal). Err (none.Refused r)) (number_tells _ _ number)
+
+pub results_unique : (s : List ℕ) (d : ℕ) (q r : Result Found NoJudgement) → Judges s d (judgement q) → Judges s d (judgement r) → q ≡ r
+results_unique s d q r h k = judgement_tells q r (judges_unique s d _ _ h k)
 
 module _ (book : Book) (set : ℕ) where
   abbrev goals : List Lit

@@ -10,8 +10,7 @@ use Rattle.image.specs.paper.Decode.{literal, clause, alternative, alternatives,
 use Rattle.image.specs.Spell.{two}
 use Rattle.meaning.specs.paper.Meaning.{clauses_for, valued}
 use Rattle.judging.specs.paper.Failing.{first_failing}
-use Rattle.judging.specs.paper.Judged.{judged_book, judged}
-use Rattle.judging.specs.declared.Judgement.TheVariants.{Explains, FalseGoal, BrokenConstraint, Refused}
+use Rattle.judging.specs.paper.Judged.{Explains, FalseGoal, BrokenConstraint, Refused, judged_book, judged}
 
 -- version, length, then the fields: A, B; the goal; three clauses; one constraint
 image : List ℕ

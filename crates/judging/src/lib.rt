@@ -6,54 +6,61 @@ pub mod values;
 
 ghost use Rattle.std.specs.Prelude.{◌≡◌};
 ghost use Rattle.image.specs.Accepted.{IsBook, book_in};
-ghost use Rattle.judging.specs.paper.Judged.{judged_book, Judges};
+ghost use Rattle.judging.specs.declared.NoJudgement.TheVariants.{Broken};
+ghost use Rattle.judging.specs.paper.Judged.{judgement, judged_book, Judges};
 
-use book::Reading;
-use image::{fields, front};
+use image::front;
+use image::refusals::{Fault, Refusal};
 use sets::members::names_above;
-use values::NOTES;
+use values::Judge;
 
-// The judge's answer. Goal literals and constraints are numbered from 0. `Broken` is the image's own refusal with its place, `Refused` the set's.
-#[derive(Drop)]
+// What the judge finds. Goal literals and constraints are numbered from 0.
+#[derive(Clone, Copy, Debug, PartialEq, Eq)]
 pub enum Judgement {
     Explains,
     FalseGoal(u32),
     BrokenConstraint(u32),
-    Broken(u8, usize),
-    Refused(u8),
+}
+
+// Why there is no judgement: the image is refused, or the set.
+#[derive(Clone, Copy, Debug, PartialEq, Eq)]
+pub enum NoJudgement {
+    Broken(Fault),
+    Refused(Refusal),
+}
+
+impl From<Fault> for NoJudgement {
+    ghost from_gives = { λ fault no. no ≡ Broken fault };
+
+    fn from(fault: Fault) -> NoJudgement {
+        NoJudgement::Broken(fault)
+    }
 }
 
 // The answer on an accepted image.
-fn judge_accepted(image: &[u8], set: u64) -> Judgement
+fn judge_accepted(image: &[u8], set: u64) -> Result<Judgement, NoJudgement>
     requires { IsBook image.now }
-    ensures { result ≡ judged_book (book_in image.now) set }
+    ensures { judgement result ≡ judged_book (book_in image.now) set }
 {
     if names_above(set, front::abducibles(image)) {
-        return Judgement::Refused(23);
+        return Err(NoJudgement::Refused(Refusal::NoAbducible));
     }
-    let mut memo = [0u8; NOTES];
-    let goals = front::goals(image);
-    let behind = front::clauses(image);
-    let goal = values::first_false(image, set, &mut memo, &image[front::GOALS..behind]);
-    if goal < goals {
-        return Judgement::FalseGoal(goal as u32);
+    let mut judge = Judge::new(image, set);
+    let goal = &image[front::GOAL..front::clauses(image)];
+    if let Some(place) = judge.first_false(goal) {
+        return Ok(Judgement::FalseGoal(place as u32));
     }
-    let counted = front::constraints(image);
-    let count = fields::field_at(image, counted) as usize;
-    let constraint = constraints::first_broken(image, set, &mut memo, counted);
-    if constraint < count {
-        return Judgement::BrokenConstraint(constraint as u32);
+    match judge.first_broken() {
+        Some(place) => Ok(Judgement::BrokenConstraint(place as u32)),
+        None => Ok(Judgement::Explains),
     }
-    Judgement::Explains
 }
 
 // Explains; or where it fails: the place of the first goal literal that is false, or with all of them true of the first constraint that is
-// broken; or the number under which the image or the set is refused.
-pub fn judge(image: &[u8], set: u64) -> Judgement
-    ensures { Judges image.now set result }
+// broken; or why the image or the set is refused.
+pub fn judge(image: &[u8], set: u64) -> Result<Judgement, NoJudgement>
+    ensures { Judges image.now set (judgement result) }
 {
-    match book::read(image) {
-        Reading::Refused(n, place) => Judgement::Broken(n, place),
-        Reading::Accepted => judge_accepted(image, set),
-    }
+    book::read(image)?;
+    judge_accepted(image, set)
 }

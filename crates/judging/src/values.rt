@@ -1,125 +1,116 @@
-// The value of an atom under a set of abducibles, found from the clauses of an accepted image as it is lent. The memo notes
-// each value once it is found, so that each atom is valued once.
+// The values of atoms under a set of abducibles, found from the clauses of an accepted image as it is lent.
 
-ghost use Rattle.std.specs.Prelude.{◌≡◌, not, ◌<◌};
-ghost use Rattle.base.specs.paper.Bools.{choose};
+ghost use Rattle.std.specs.Prelude.{◌≡◌, ◌<◌, length};
 ghost use Rattle.image.specs.Sound.{Known};
 ghost use Rattle.meaning.specs.paper.Meaning as meaning;
-ghost use Rattle.judging.specs.paper.Failing.{first_failing};
-ghost use Rattle.judging.specs.Notes.{note_of, Noted, met_at, lits_of};
+ghost use Rattle.judging.specs.FailingLaws.{failing_at};
+ghost use Rattle.judging.specs.Notes.{lit_at, lits_of};
 ghost use Rattle.image.specs.Accepted.{IsBook, book_in};
 
 use image::limits::MOST_ATOMS;
 use image::{fields, front};
 use sets::members::is_in;
+use std::marker::Model;
 
-// The memo has a note for each atom there can be.
-pub const NOTES: usize = MOST_ATOMS as usize;
+// There is a note for each atom there can be.
+const NOTES: usize = MOST_ATOMS as usize;
 
-// An atom's value as the memo notes it. 0 is no note.
-fn note(t: bool) -> u8
-    ensures { result ≡ note_of t }
-{
-    if t { 2 } else { 1 }
-}
+// The bytes of a literal's field.
+const LITERAL: usize = 2;
 
-// Whether a literal of this sign is true where its atom has this value.
-fn is_true(sign: bool, value: bool) -> bool
-    ensures { result ≡ choose sign value (not value) }
-{
-    if sign { value } else { !value }
-}
-
-// What a walk over literals meets: a literal, which is an atom or its negation, or their end.
+// What judges: an accepted image, a set, and a note of each value once it is found, so that each atom is valued once.
 #[derive(Drop)]
-enum Met {
-    Literal(u32, bool),
-    End,
+pub struct Judge<'a> {
+    pub(crate) image: &'a [u8],
+    set: u64,
+    notes: [Option<bool>; NOTES],
 }
 
-// The walker over a clause's body, or over literals behind their count. It is lent their part of the image: the head or the
-// count, then the literals.
-fn walk(part: &[u8], at: usize) -> Met
-    ensures { result ≡ met_at part.now at }
-{
-    if fields::is_there(part, at) {
-        let x = fields::field_at(part, at);
-        return Met::Literal(x / 2, x % 2 == 0);
-    }
-    Met::End
+impl<'a> Model for Judge<'a> {
+    ghost use Rattle.judging.specs.Notes.{Given, Noted};
+
+    ghost Value = { Given };
+
+    ghost view = { λ j. record { image = j.image.now; set = j.set } };
+
+    ghost invariant = { λ j. Noted j.image.now j.set j.notes };
 }
 
-// An atom's value: noted already; or, of an abducible, whether it is in the set; or whether it has a clause all of whose body literals are
-// true, where each body atom's value is worked out in the same way.
-fn value(image: &[u8], set: u64, memo: &mut [u8; NOTES], atom: u32) -> bool
-    requires book { IsBook image.now }
-    requires noted { Noted (book_in image.now) set memo.old }
-    requires atom_bound { atom < (book_in image.now).atoms }
-    ensures value { result ≡ meaning.value (book_in image.now) set atom }
-    ensures memo { Noted (book_in image.now) set memo.new }
+// The literal of a field: an atom, and whether it is the atom itself or its negation.
+fn literal(field: &[u8]) -> (u32, bool)
+    requires { length field.now ≡ 2 }
+    ensures { result ≡ lit_at field.now }
 {
-    let slot = atom as usize;
-    let noted = memo[slot];
-    if noted != 0 {
-        return noted == 2;
-    }
-    if atom < front::abducibles(image) {
-        let member = is_in(set, atom);
-        memo[slot] = note(member);
-        return member;
-    }
-    let counted = front::clauses(image);
-    let count = fields::field_at(image, counted);
-    let mut place = counted + 2;
-    let mut i: u32 = 0;
-    let met = 'clauses: loop {
-        if i == count {
-            break 'clauses false;
+    let x = fields::field_at(field, 0);
+    (x / 2, x % 2 == 0)
+}
+
+impl<'a> Judge<'a> {
+    pub fn new(image: &'a [u8], set: u64) -> Self
+        requires { IsBook image.now }
+        ensures { result ≡ record { image = image.now; set = set } }
+    {
+        Judge {
+            image,
+            set,
+            notes: [None; NOTES],
         }
-        let head = place + 2;
-        let end = head + fields::field_at(image, place) as usize;
-        if fields::field_at(image, head) == atom {
-            let mut at: usize = 2;
-            // The end of a body, met with every literal true, leaves both scans.
-            loop {
-                match walk(&image[head..end], at) {
-                    Met::End => break 'clauses true,
-                    Met::Literal(p, sign) => {
-                        if !is_true(sign, value(image, set, memo, p)) {
-                            break;
-                        }
+    }
+
+    // An atom's value: noted already; or, of an abducible, whether it is in the set; or whether it has a clause all of whose body literals
+    // are true, where each body atom's value is worked out in the same way.
+    fn value(&mut self, atom: u32) -> bool
+        requires { atom < (book_in self.old.image).atoms }
+        ensures value { result ≡ meaning.value (book_in self.old.image) self.old.set atom }
+        ensures same { self.new ≡ self.old }
+    {
+        let slot = atom as usize;
+        if let Some(value) = self.notes[slot] {
+            return value;
+        }
+        let image = self.image;
+        if atom < front::abducibles(image) {
+            let member = is_in(self.set, atom);
+            self.notes[slot] = Some(member);
+            return member;
+        }
+        let counted = front::clauses(image);
+        let count = fields::field_at(image, counted);
+        let mut place = counted + 2;
+        let met = 'found: {
+            'clauses: for _ in 0..count {
+                let head = place + 2;
+                let end = head + fields::field_at(image, place) as usize;
+                place = end;
+                if fields::field_at(image, head) != atom {
+                    continue;
+                }
+                for field in image[head + 2..end].chunks_exact(LITERAL) {
+                    let (p, sign) = literal(field);
+                    if self.value(p) != sign {
+                        continue 'clauses;
                     }
                 }
-                at += 2;
+                break 'found true;
             }
-        }
-        place = end;
-        i += 1;
-    };
-    memo[slot] = note(met);
-    met
-}
+            false
+        };
+        self.notes[slot] = Some(met);
+        met
+    }
 
-// The place of the first false literal behind the first field of a part of the image; where all are true, their number.
-pub fn first_false(image: &[u8], set: u64, memo: &mut [u8; NOTES], part: &[u8]) -> usize
-    requires book { IsBook image.now }
-    requires noted { Noted (book_in image.now) set memo.old }
-    requires known { Known (book_in image.now) (lits_of part.now) }
-    ensures place { result ≡ first_failing (meaning.true_in (meaning.value (book_in image.now) set)) (lits_of part.now) }
-    ensures memo { Noted (book_in image.now) set memo.new }
-{
-    let mut at: usize = 2;
-    let mut i: usize = 0;
-    loop {
-        match walk(part, at) {
-            Met::End => return i,
-            Met::Literal(p, sign) => {
-                if !is_true(sign, value(image, set, memo, p)) {
-                    return i;
-                }
+    // The place of the first false one of these literals, where one is.
+    pub fn first_false(&mut self, literals: &[u8]) -> Option<usize>
+        requires { Known (book_in self.old.image) (lits_of literals.now) }
+        ensures place { result ≡ failing_at (meaning.true_in (meaning.value (book_in self.old.image) self.old.set)) (lits_of literals.now) }
+        ensures same { self.new ≡ self.old }
+    {
+        for (i, field) in literals.chunks_exact(LITERAL).enumerate() {
+            let (p, sign) = literal(field);
+            if self.value(p) != sign {
+                return Some(i);
             }
         }
-        at += 2;
-        i += 1;
+        None
     }
 }

@@ -1,2 +1,3 @@
--- What the proofs share: the loops' invariants.
+-- What the proofs share: the search for a set that passes a test, and the loops' invariants.
+pub mod Finding
 pub mod Loops

@@ -1,6 +1,6 @@
 -- The ways to a listing: what the tests before any search say, and what a search leaves; and that the promise fixes the result.
 -- Assumes nothing.
-use Rattle.std.specs.Prelude.{ℕ, ◌-◌, ◌≤◌, ◌<◌, ◌≡◌, refl, List, ◌++◌, length, take, drop}
+use Rattle.std.specs.Prelude.{ℕ, ◌-◌, ◌≤◌, ◌<◌, ◌≡◌, refl, List, ◌++◌, length, take, drop, Result as Returned, Ok, Err, ⊤}
 use Rattle.std.proofs.Common.{arith, sym, ap₂, subst, ◌∙◌, lt-ltb, le-ltb, take_at, length-take-le}
 use Rattle.std.proofs.Math.Path.{ap}
 use Rattle.base.specs.Bools.{choose_true, choose_false}
@@ -14,11 +14,15 @@ use Rattle.searching.specs.paper.Rules.{root, Outcome, finished, used_up, no_roo
 use Rattle.searching.specs.paper.Explanations.{Explanations}
 use Rattle.searching.proofs.Main.{listed}
 use Rattle.area.specs.Area as layout
-use Rattle.lister.specs.declared.Asked.{Asked}
-use Rattle.lister.specs.declared.Asked.TheVariants.{Broken as BrokenBook, Turned, Search}
-use Rattle.lister.specs.declared.Listing.{Listing}
-use Rattle.lister.specs.declared.Listing.TheVariants.{Listed, Broken, Refused}
-use Rattle.lister.specs.paper.Promise.{most_budget, Result, broken, turned, searched, by_book, result_of, answer_of, sets_of, work_of, Explained, Lists}
+use Rattle.image.specs.paper.Refusals.{number_of}
+use Rattle.image.specs.RefusalLaws.{number_tells}
+use Rattle.image.specs.declared.refusals.Refusal.{Refusal}
+use Rattle.image.specs.declared.refusals.Refusal.TheVariants.{LongList, ShortArea, LargeBudget}
+use Rattle.image.specs.declared.refusals.Fault.{Fault}
+use Rattle.lister.specs.declared.Listed.{Listed as Found}
+use Rattle.lister.specs.declared.NoAnswer.{NoAnswer}
+use Rattle.lister.specs.declared.NoAnswer.TheVariants as none
+use Rattle.lister.specs.paper.Promise.{Listing, Listed, Refused, listing, most_budget, Result, broken, turned, searched, by_book, result_of, answer_of, sets_of, work_of, Explained, Lists}
 
 -- ---- a search's results
 
@@ -104,35 +108,30 @@ pub record Admitted (image : List ℕ) (budget room space : ℕ) : Type 0 where
   pub long : layout.end ≤ space
   pub low : budget ≤ most_budget
 
--- what the tests before any search say: a refusal, or that it may begin
-abbrev pub Early : List ℕ → ℕ → ℕ → ℕ → Asked → Type 0
-Early image budget room space (BrokenBook n at) = result_of image budget room space ≡ broken n at
-Early image budget room space (Turned n) = result_of image budget room space ≡ turned n
-Early image budget room space Search = Admitted image budget room space
+-- what the tests before any search say: that it may begin, or why not
+abbrev pub Early : List ℕ → ℕ → ℕ → ℕ → Returned ⊤ NoAnswer → Type 0
+Early image budget room space (Ok x) = Admitted image budget room space
+Early image budget room space (Err (none.Broken fault)) = result_of image budget room space ≡ broken (number_of fault.refusal) fault.place
+Early image budget room space (Err (none.Refused refusal n)) = (result_of image budget room space ≡ turned (number_of refusal)) × (n ≡ 0)
 
 module _ (image : List ℕ) (budget room space : ℕ) where
-  pub early_refused : (n at : ℕ) → decode image ≡ refused n at → Early image budget room space (BrokenBook n at)
+  pub early_refused : (f : Fault) → decode image ≡ refused (number_of f.refusal) f.place → Early image budget room space (Err (none.Broken f))
   unfolding result_of
-  early_refused n at e = ap (λ (d : Decoded). by_book d room space budget) e
+  early_refused f e = ap (λ (d : Decoded). by_book d room space budget) e
 
   module _ (i : IsBook image) where
     on_book : result_of image budget room space ≡ by_book (accepted (book_in image)) room space budget
     unfolding result_of
     on_book = ap (λ (d : Decoded). by_book d room space budget) i
 
-    pub early_long : longest < room → Early image budget room space (Turned 20)
-    early_long p = on_book ∙ choose_true _ _ (lt-ltb longest room p)
+    pub early_long : longest < room → Early image budget room space (Err (none.Refused LongList 0))
+    early_long p = (on_book ∙ choose_true _ _ (lt-ltb longest room p), refl)
 
-    pub early_short : room ≤ longest → space < layout.end → Early image budget room space (Turned 21)
-    early_short p q = on_book ∙ choose_false _ _ (le-ltb longest room p) ∙ choose_true _ _ (lt-ltb space layout.end q)
+    pub early_short : room ≤ longest → space < layout.end → Early image budget room space (Err (none.Refused ShortArea 0))
+    early_short p q = (on_book ∙ choose_false _ _ (le-ltb longest room p) ∙ choose_true _ _ (lt-ltb space layout.end q), refl)
 
-    pub early_budget : room ≤ longest → layout.end ≤ space → most_budget < budget → Early image budget room space (Turned 22)
-    early_budget p q r =
-        on_book ∙ choose_false _ _ (le-ltb longest room p) ∙ choose_false _ _ (le-ltb space layout.end q) ∙ choose_true _ _ (lt-ltb most_budget budget r)
-
-  -- the search may begin
-  pub may_search : (r : Asked) → Early image budget room space r → r ≡ Search → Admitted image budget room space
-  may_search r early i = subst (Early image budget room space) i early
+    pub early_budget : room ≤ longest → layout.end ≤ space → most_budget < budget → Early image budget room space (Err (none.Refused LargeBudget 0))
+    early_budget p q r = (on_book ∙ choose_false _ _ (le-ltb longest room p) ∙ choose_false _ _ (le-ltb space layout.end q) ∙ choose_true _ _ (lt-ltb most_budget budget r), refl)
 
   pub admitted_result : (a : Admitted image budget room space) → result_of image budget room space ≡ searched (search_end (book_in image) room budget)
   admitted_result a =
@@ -141,23 +140,19 @@ module _ (image : List ℕ) (budget room space : ℕ) where
 
 module _ (image : List ℕ) (budget : ℕ) (sets work : List ℕ) where
   -- refused before any search: the image itself, or turned away
-  pub broken_lists : (n at : ℕ) (r : Asked) → Early image budget (length sets) (length work) r → r ≡ BrokenBook n at → Lists image budget sets work (Broken n at) sets work
-  broken_lists n at r early i =
-      let e : result_of image budget (length sets) (length work) ≡ broken n at = subst (Early image budget (length sets) (length work)) i early in
+  pub refused_lists : (e : NoAnswer) → Early image budget (length sets) (length work) (Err e) → Lists image budget sets work (listing (Err e)) sets work
+  refused_lists (none.Broken f) e =
       record {
         answer = ap answer_of (sym e);
         sets = ap (λ (x : Result). sets_of x sets) (sym e);
         work = ap (λ (x : Result). work_of x work) (sym e);
-        explanations = λ k m j. let z : ◌≡◌ {A = ℕ} 0 1 = cc in absurd (omega arith);
+        explanations = λ k m j. cc;
       }
-
-  pub turned_lists : (n : ℕ) (r : Asked) → Early image budget (length sets) (length work) r → r ≡ Turned n → Lists image budget sets work (Refused n 0) sets work
-  turned_lists n r early i =
-      let e : result_of image budget (length sets) (length work) ≡ turned n = subst (Early image budget (length sets) (length work)) i early in
+  refused_lists (none.Refused r n) e =
       record {
-        answer = ap answer_of (sym e);
-        sets = ap (λ (x : Result). sets_of x sets) (sym e);
-        work = ap (λ (x : Result). work_of x work) (sym e);
+        answer = ap (Refused (number_of r)) e.1 ∙ ap answer_of (sym e.0);
+        sets = ap (λ (x : Result). sets_of x sets) (sym e.0);
+        work = ap (λ (x : Result). work_of x work) (sym e.0);
         explanations = λ k m j. never j;
       }
 
@@ -180,3 +175,31 @@ pub lists_unique : (image : List ℕ) (budget : ℕ) (sets work : List ℕ) (r q
     → (r ≡ q) × (sets₁ ≡ sets₂) × (work₁ ≡ work₂)
 lists_unique image budget sets work r q sets₁ work₁ sets₂ work₂ a b =
     (a.answer ∙ sym b.answer, a.sets ∙ sym b.sets, a.work ∙ sym b.work)
+
+-- what `list` returns is told by its listing, so two of its results that meet the promise are equal too
+pub listing_tells : (q r : Returned Found NoAnswer) → listing q ≡ listing r → q ≡ r
+listing_tells (Ok k) (Ok l) e =
+    let count : k.count ≡ l.count = cc in
+    let nodes : k.nodes ≡ l.nodes = cc in
+    ap₂ (λ (m n : ℕ). Ok (record { count = m; nodes = n })) count nodes
+listing_tells (Ok k) (Err (none.Broken g)) e = cc
+listing_tells (Ok k) (Err (none.Refused b n)) e = cc
+listing_tells (Err (none.Broken f)) (Ok l) e = cc
+listing_tells (Err (none.Broken f)) (Err (none.Broken g)) e =
+    let number : number_of f.refusal ≡ number_of g.refusal = cc in
+    let place : f.place ≡ g.place = cc in
+    ap₂ (λ (r : Refusal) (p : ℕ). Err (none.Broken (record { refusal = r; place = p }))) (number_tells _ _ number) place
+listing_tells (Err (none.Broken f)) (Err (none.Refused b n)) e = cc
+listing_tells (Err (none.Refused a m)) (Ok l) e = cc
+listing_tells (Err (none.Refused a m)) (Err (none.Broken g)) e = cc
+listing_tells (Err (none.Refused a m)) (Err (none.Refused b n)) e =
+    let number : number_of a ≡ number_of b = cc in
+    let nodes : m ≡ n = cc in
+    ap₂ (λ (r : Refusal) (k : ℕ). Err (none.Refused r k)) (number_tells _ _ number) nodes
+
+pub results_unique : (image : List ℕ) (budget : ℕ) (sets work : List ℕ) (r q : Returned Found NoAnswer) (sets₁ work₁ sets₂ work₂ : List ℕ)
+    → Lists image budget sets work (listing r) sets₁ work₁ → Lists image budget sets work (listing q) sets₂ work₂
+    → (r ≡ q) × (sets₁ ≡ sets₂) × (work₁ ≡ work₂)
+results_unique image budget sets work r q sets₁ work₁ sets₂ work₂ a b =
+    let u = lists_unique image budget sets work (listing r) (listing q) sets₁ work₁ sets₂ work₂ a b in
+    (listing_tells r q u.0, u.1, u.2)

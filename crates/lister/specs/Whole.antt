@@ -13,7 +13,7 @@ use Rattle.area.specs.Area as layout
 use Rattle.machine.specs.declared.Ended.{Ended}
 use Rattle.machine.specs.declared.Ended.TheVariants.{Finished, UsedUp, NoRoom}
 use Rattle.machine.specs.Agreed.{outcome_in, kept_in, Told}
-use Rattle.lister.specs.declared.Listing.TheVariants.{Listed, Refused}
+use Rattle.lister.specs.paper.Promise.{Listed, Refused}
 use Rattle.lister.specs.PromiseLaws.{Searched, searched_all, searched_short, searched_full}
 
 -- no search visits more nodes than its budget

@@ -3,13 +3,9 @@
 // error.
 #![tactic(auto)]
 
-ghost use Rattle.std.specs.Prelude.{◌≡◌, length};
-ghost use Rattle.listing.specs.Buffers.{input_bytes, room};
-ghost use Rattle.area.specs.paper.Work.{work_numbers};
-
 use area::END;
 use cases::input;
-use engine::Listing;
+use engine::NoAnswer;
 use image::limits::{LONGEST_IMAGE, MOST_ABDUCIBLES};
 use sets::members::is_in;
 use std::io;
@@ -19,29 +15,6 @@ const BUDGET: u32 = 100_000;
 const ROOM: usize = 256;
 
 const INPUT: usize = LONGEST_IMAGE + 1;
-
-fn image_buffer() -> [u8; INPUT]
-    ensures { input_bytes ≡ length result }
-{
-    [0; INPUT]
-}
-
-fn list_buffer() -> [u64; ROOM]
-    ensures { room ≡ length result }
-{
-    [0; ROOM]
-}
-
-fn work_area() -> [u32; END]
-    ensures { work_numbers ≡ length result }
-{
-    [0; END]
-}
-
-// The first line: a word with its number, and the nodes; the line goes on.
-fn head<R: Print>(rt: &R, word: &str, number: u32, nodes: u32) -> io::Result<()> {
-    print!(rt; "{word} {number} nodes {nodes}")
-}
 
 // A space before each abducible of the set, ascending.
 fn members<R: Print>(rt: &R, set: u64) -> io::Result<()> {
@@ -73,26 +46,21 @@ fn lines<R: Print>(rt: &R, sets: &[u64], count: usize) -> io::Result<()> {
 
 fn show<R: Print>(rt: &R, image: &[u8], sets: &mut [u64], work: &mut [u32]) -> io::Result<()> {
     match engine::list(image, BUDGET, sets, work) {
-        Listing::Listed(count, nodes) => {
-            head(rt, "sets", count, nodes)?;
-            println!(rt)?;
-            lines(rt, sets, count as usize)
+        Ok(listed) => {
+            println!(rt; "sets {} nodes {}", listed.count, listed.nodes)?;
+            lines(rt, sets, listed.count as usize)
         }
-        Listing::Broken(number, place) => {
-            head(rt, "refused", number as u32, 0)?;
-            println!(rt; " at {place}")
+        Err(NoAnswer::Broken(fault)) => {
+            println!(rt; "refused {} nodes 0 at {}", fault.refusal, fault.place)
         }
-        Listing::Refused(number, nodes) => {
-            head(rt, "refused", number as u32, nodes)?;
-            println!(rt)
-        }
+        Err(NoAnswer::Refused(refusal, nodes)) => println!(rt; "refused {refusal} nodes {nodes}"),
     }
 }
 
 fn main(rt: HostRuntime) -> io::Result<()> {
-    let mut image = image_buffer();
-    let mut sets = list_buffer();
-    let mut work = work_area();
-    let n = input::take_all(&mut rt.stdin(), &mut image)?;
-    show(&rt, &image[..n], &mut sets, &mut work)
+    let mut image = [0; INPUT];
+    let mut sets = [0; ROOM];
+    let mut work = [0; END];
+    let image = input::take_all(&mut rt.stdin(), &mut image)?;
+    show(&rt, image, &mut sets, &mut work)
 }

@@ -3,7 +3,7 @@
 use Prim.Native.Nat.{ℕ, zero, suc, ◌+◌, ◌-◌, ◌*◌, ◌≤◌, ◌<◌}
 use Rattle.std.proofs.Math.Nat.{sub-zero}
 use native.Mathlib.Omega.{arith}
-use Rattle.std.specs.Prelude.{◌≡◌, false, take, drop}
+use Rattle.std.specs.Prelude.{◌≡◌, Option, Some, None, false, take, drop}
 use Rattle.std.proofs.Math.Path.{refl, sym, ap}
 use Rattle.std.proofs.Common.{subst, subst₂, ◌∙◌}
 use mathlib.Core.List.{List, [], ◌∷◌, ◌++◌, map}
@@ -29,13 +29,11 @@ use Rattle.tables.specs.Filling.{Filled}
 use Rattle.area.specs.Area as layout
 use Rattle.memory.specs.declared.run.Agenda.{Agenda}
 use Rattle.memory.specs.declared.run.Run.{Run}
-use Rattle.memory.specs.States.{TASK, AGENDA}
+use Rattle.memory.specs.States.{rank_tells, TASK, AGENDA}
 use Rattle.memory.specs.Machine.{Trail, Own, Tail, Leads, bottom, node_of, Fine, Hand, Holds, with_hand}
 use Rattle.memory.specs.Pieces.{giving}
 use Rattle.memory.specs.Agreed.{Standing, Moved}
 use Rattle.machine.specs.Agreed.{Searching, Told, Walked, begins_at, Known, Started, Searched}
-use Rattle.machine.specs.declared.Beginning.{Beginning}
-use Rattle.machine.specs.declared.Beginning.TheVariants.{Root, RootWith}
 use Rattle.machine.specs.declared.Ended.{Ended}
 
 -- the goal, which ends where the clause count stands, and then all constraints
@@ -46,8 +44,8 @@ abbrev pub root_run : ℕ → Run
 root_run clauses =
     record { state = AGENDA; task = 0; agenda = root_agenda clauses; marked = layout.trail; top = layout.frames; nodes = 0; count = 0; set = 0 }
 
-pub known_with : {from : Beginning} {h : ℕ} (b : Book) → from ≡ RootWith h → Known from b → h < b.abducibles
-known_with b i k = subst (λ (x : Beginning). Known x b) i k
+pub known_with : {hypothesis : Option ℕ} {h : ℕ} (b : Book) → hypothesis ≡ Some h → Known hypothesis b → h < b.abducibles
+known_with b i k = subst (λ (x : Option ℕ). Known x b) i k
 
 module _ (image work work' : List ℕ) (filled : Filled image work work') (clauses : ℕ) (is-clauses : clauses ≡ clause_count_at image) where
   abbrev its : Book
@@ -135,21 +133,21 @@ module _ (image work work' : List ℕ) (filled : Filled image work work') (claus
     pub root_stands : Standing image work' run AGENDA
     root_stands = record { b = its; all = root its ∷ []; holds = run_holds; state = ap (λ (o : Run). o.state) is-root }
 
-    pub started_root : {from : Beginning} {first : Run} → from ≡ Root → Moved image work' run work' first TASK → Started image from work work' first
+    pub started_root : {hypothesis : Option ℕ} {first : Run} → hypothesis ≡ None → Moved image work' run work' first TASK → Started image hypothesis work work' first
     started_root {first = first} i m = record {
-      holds = subst (λ (x : Beginning). Holds image its work' first (begins_at x its ∷ [])) (sym i) (m.holds its (root its ∷ []) run_holds);
-      state = omega (arith, m.state);
+      holds = subst (λ (x : Option ℕ). Holds image its work' first (begins_at x its ∷ [])) (sym i) (m.holds its (root its ∷ []) run_holds);
+      state = rank_tells first.state TASK (omega (arith, m.state));
       nodes = m.nodes ∙ ap (λ (o : Run). o.nodes) is-root;
       count = m.count ∙ ap (λ (o : Run). o.count) is-root;
       later = behind;
     }
 
-    pub started_with : {from : Beginning} {first : Run} (h : ℕ) → from ≡ RootWith h → Known from its → first ≡ giving run TASK (2 * h)
-        → Started image from work work' first
+    pub started_with : {hypothesis : Option ℕ} {first : Run} (h : ℕ) → hypothesis ≡ Some h → Known hypothesis its → first ≡ giving run TASK (2 * h)
+        → Started image hypothesis work work' first
     started_with {first = first} h i k e =
         let is : first ≡ giving (root_run clauses) TASK (2 * h) = e ∙ ap (λ (o : Run). giving o TASK (2 * h)) is-root in
         record {
-          holds = subst₂ (λ (x : Beginning) (o : Run). Holds image its work' o (begins_at x its ∷ [])) (sym i) (sym is) (with_holds h (known_with its i k));
+          holds = subst₂ (λ (x : Option ℕ) (o : Run). Holds image its work' o (begins_at x its ∷ [])) (sym i) (sym is) (with_holds h (known_with its i k));
           state = ap (λ (o : Run). o.state) is;
           nodes = ap (λ (o : Run). o.nodes) is;
           count = ap (λ (o : Run). o.count) is;
@@ -158,12 +156,12 @@ module _ (image work work' : List ℕ) (filled : Filled image work work') (claus
 
 -- ---- the search begins at a node, and ends with what the rules give from it
 
-module _ {image work work' : List ℕ} {from : Beginning} {first : Run} (h : Started image from work work' first) (budget : ℕ) where
+module _ {image work work' : List ℕ} {hypothesis : Option ℕ} {first : Run} (h : Started image hypothesis work work' first) (budget : ℕ) where
   pub begins : (sets : List ℕ) → length sets ≤ longest
-      → Searching image budget (run_from (book_in image) (length sets) budget (begins_at from (book_in image))) sets work' first
+      → Searching image budget (run_from (book_in image) (length sets) budget (begins_at hypothesis (book_in image))) sets work' first
   begins sets few = record {
     b = book_in image;
-    all = begins_at from (book_in image) ∷ [];
+    all = begins_at hypothesis (book_in image) ∷ [];
     holds = h.holds;
     nodes = omega (arith, h.nodes);
     count = omega (arith, h.count);
@@ -172,14 +170,14 @@ module _ {image work work' : List ℕ} {from : Beginning} {first : Run} (h : Sta
   }
     where
       go : (n c : ℕ) → n ≡ 0 → c ≡ 0
-          → run_from (book_in image) (length sets) budget (begins_at from (book_in image))
-          ≡ Rules.run (book_in image) (length sets) (budget - n) (begins_at from (book_in image) ∷ []) (take c sets) n
+          → run_from (book_in image) (length sets) budget (begins_at hypothesis (book_in image))
+          ≡ Rules.run (book_in image) (length sets) (budget - n) (begins_at hypothesis (book_in image) ∷ []) (take c sets) n
       go n c p q = rw (p, q, sub-zero)
 
   pub searched : {sets after work'' : List ℕ} {answer : Ended} → length sets ≤ longest → Walked image budget sets work' first after work'' answer
-      → length after ≡ length sets → Searched image from budget work after work'' answer
+      → length after ≡ length sets → Searched image hypothesis budget work after work'' answer
   searched {sets} {after} {answer = answer} few w same = record {
     told =
-        subst (λ (n : ℕ). Told (run_from (book_in image) n budget (begins_at from (book_in image))) after answer) (sym same) (w.told _ (begins sets few));
+        subst (λ (n : ℕ). Told (run_from (book_in image) n budget (begins_at hypothesis (book_in image))) after answer) (sym same) (w.told _ (begins sets few));
     cleared = w.cleared ∙ ap (λ (l : List ℕ). zeros layout.end ++ l) h.later;
   }

@@ -7,32 +7,25 @@ mod steps;
 
 ghost use Rattle.machine.specs.Agreed.{Searchable, Searched};
 
-// Where a search begins: at the root, or with a hypothesis wanted true ahead of the goal.
-#[derive(Drop)]
-pub enum Beginning {
-    Root,
-    RootWith(usize),
-}
-
 // How it has ended: it is finished, with so many sets kept; the budget is used up; the list has no room. Then the nodes visited.
-#[derive(Drop)]
+#[derive(Clone, Copy, Debug, PartialEq, Eq)]
 pub enum Ended {
     Finished(usize, usize),
     UsedUp(usize),
     NoRoom(usize),
 }
 
-// The whole search: started, walked to its end, and cleared.
+// The whole search, from the root, or with a hypothesis wanted true ahead of the goal: started, walked to its end, and cleared.
 pub fn search(
     image: &[u8],
-    from: Beginning,
+    hypothesis: Option<usize>,
     budget: usize,
     sets: &mut [u64],
     work: &mut [u32],
 ) -> Ended
-    requires { Searchable image.now from sets.old work.old }
-    ensures { Searched image.now from budget work.old sets.new work.new result }
+    requires { Searchable image.now hypothesis sets.old work.old }
+    ensures { Searched image.now hypothesis budget work.old sets.new work.new result }
 {
-    let first = start::start(image, from, work);
+    let first = start::start(image, hypothesis, work);
     steps::walk(image, budget, sets, work, first)
 }

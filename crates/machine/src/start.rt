@@ -3,18 +3,17 @@ ghost use Rattle.std.specs.Prelude.{◌≡◌};
 ghost use Rattle.machine.specs.Agreed.{Startable, Started};
 ghost use Rattle.machine.specs.Start.{root_run};
 
-use super::Beginning;
 use area::{CELLS, FRAMES, TRAIL};
 use image::front;
 use memory::agenda;
-use memory::run::{AGENDA, Agenda, Run, TASK, given};
+use memory::run::{Agenda, Run, State};
 
 // The root: the goal, which ends where the clause count stands, and then the constraints.
 fn root(clauses: usize) -> Run
     ensures { result ≡ root_run clauses }
 {
     Run {
-        state: AGENDA,
+        state: State::Agenda,
         task: 0,
         agenda: Agenda {
             at: front::GOAL,
@@ -30,14 +29,18 @@ fn root(clauses: usize) -> Run
 }
 
 // The tables are filled, and the first task is in hand: the root's own, or the hypothesis with the root's agenda behind it.
-pub fn start(image: &[u8], from: Beginning, work: &mut [u32]) -> Run
-    requires { Startable image.now from work.old }
-    ensures { Started image.now from work.old work.new result }
+pub fn start(image: &[u8], hypothesis: Option<usize>, work: &mut [u32]) -> Run
+    requires { Startable image.now hypothesis work.old }
+    ensures { Started image.now hypothesis work.old work.new result }
 {
     tables::fill(image, work);
     let root = root(front::clauses(image));
-    match from {
-        Beginning::Root => agenda::front(image, work, root),
-        Beginning::RootWith(hypothesis) => given(root, TASK, 2 * hypothesis),
+    match hypothesis {
+        None => agenda::front(image, work, root),
+        Some(atom) => Run {
+            state: State::Task,
+            task: 2 * atom,
+            ..root
+        },
     }
 }

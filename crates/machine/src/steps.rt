@@ -6,7 +6,7 @@ use super::Ended;
 use area::END;
 use frames::{back, choose};
 use memory::agenda::{enter, front};
-use memory::run::{AGENDA, FAILED, LIST, OVER, Run, SPENT, TASK, WAY};
+use memory::run::{Run, State};
 use visit::visit;
 
 // A node that failed goes back.
@@ -14,10 +14,10 @@ fn after_failure(work: &mut [u32], r: Run) -> Run
     requires { Somewhere work.old r FAILED }
     ensures { Passes work.old r FAILED work.new result WAY }
 {
-    if r.state == FAILED {
-        return back(work, r);
+    match r.state {
+        State::Failed => back(work, r),
+        _ => r,
     }
-    r
 }
 
 // Ways are taken.
@@ -25,10 +25,10 @@ fn after_ways(work: &mut [u32], r: Run) -> Run
     requires { Somewhere work.old r WAY }
     ensures { Passes work.old r WAY work.new result LIST }
 {
-    if r.state == WAY {
-        return choose(work, r);
+    match r.state {
+        State::Way => choose(work, r),
+        _ => r,
     }
-    r
 }
 
 // A list is entered.
@@ -36,10 +36,10 @@ fn after_list(work: &mut [u32], r: Run) -> Run
     requires { Somewhere work.old r LIST }
     ensures { Passes work.old r LIST work.new result AGENDA }
 {
-    if r.state == LIST {
-        return enter(work, r);
+    match r.state {
+        State::List => enter(work, r),
+        _ => r,
     }
-    r
 }
 
 // An agenda gives its first task.
@@ -47,10 +47,10 @@ fn after_agenda(image: &[u8], work: &[u32], r: Run) -> Run
     requires { Placed image.now work.now r AGENDA }
     ensures { Onward image.now work.now r result }
 {
-    if r.state == AGENDA {
-        return front(image, work, r);
+    match r.state {
+        State::Agenda => front(image, work, r),
+        _ => r,
     }
-    r
 }
 
 // A node, up to the next task.
@@ -69,13 +69,11 @@ fn step(image: &[u8], budget: usize, sets: &mut [u64], work: &mut [u32], r: Run)
 fn ended(r: Run) -> Ended
     ensures { Tells r result }
 {
-    if r.state == OVER {
-        return Ended::Finished(r.count, r.nodes);
+    match r.state {
+        State::Over => Ended::Finished(r.count, r.nodes),
+        State::Spent => Ended::UsedUp(r.nodes),
+        _ => Ended::NoRoom(r.nodes),
     }
-    if r.state == SPENT {
-        return Ended::UsedUp(r.nodes);
-    }
-    Ended::NoRoom(r.nodes)
 }
 
 // From the first task to the end; and the work area is cleared.
@@ -84,7 +82,7 @@ pub fn walk(image: &[u8], budget: usize, sets: &mut [u64], work: &mut [u32], fir
     ensures { Walked image.now budget sets.old work.old first sets.new work.new result }
 {
     let mut r = first;
-    while r.state == TASK {
+    while let State::Task = r.state {
         r = step(image, budget, sets, work, r);
     }
     area::wipe(work, END);

@@ -5,11 +5,17 @@ use Rattle.std.specs.Prelude.{◌≡◌, refl, Bool, true, false, ◌||◌, List
 use Rattle.std.proofs.Common.{sym, ap, ap₂, ◌∙◌, arith, eqb-true, eq-eqb, ne_eqb, get_or-set_same, get_or-set_other}
 use Rattle.std.proofs.Math.Logic.{⊎_elim}
 use Rattle.std.proofs.lemmas.Bool.{eqb-false}
+use Rattle.std.proofs.lemmas.Bool.Decides.{Decides-eqb}
+use Rattle.std.proofs.lemmas.List.{ext_get_or}
+use Rattle.std.proofs.lemmas.Slice.Eq.{slice_eq-Decides}
+use Rattle.std.specs.Bool.{Decides}
+use lib.Pointwise.{pointwise}
 use Rattle.std.specs.Int.Bits.{bit_or}
 use Rattle.base.specs.Bools.{decide, clash, same_test}
 use Rattle.base.specs.paper.Members.{has}
 use Rattle.sets.specs.SetLaws.{set_bits, same_members, within_has}
 use Rattle.sets.specs.Bits.{has_none, has_one, has_or}
+use Rattle.marks.specs.declared.Marks.{Marks}
 use Rattle.marks.specs.Marked.{words, markable, mark_in}
 
 -- ---- words
@@ -56,7 +62,7 @@ mark_none p = ap (λ (n : ℕ). has n (p % set_bits)) (zeros (p / set_bits)) ∙
     zeros (suc (suc (suc (suc w)))) = refl
 
 -- where nothing is marked, a word is 0
-pub none_mark : (ws : List ℕ) (which : ℕ) → get_or ws which 0 < 2 ^ set_bits → ((p : ℕ) → mark_in ws p ≡ false) → get_or ws which 0 ≡ 0
+none_mark : (ws : List ℕ) (which : ℕ) → get_or ws which 0 < 2 ^ set_bits → ((p : ℕ) → mark_in ws p ≡ false) → get_or ws which 0 ≡ 0
 unfolding mark_in
 none_mark ws which fits none = same_members (get_or ws which 0) 0 (λ j. ⊎_elim (λ h. clash h (off j h)) (λ h. h ∙ sym (has_none j)) (decide (has (get_or ws which 0) j)))
   where
@@ -66,3 +72,16 @@ none_mark ws which fits none = same_members (get_or ws which 0) 0 (λ j. ⊎_eli
         let word : which ≡ (which * set_bits + j) / set_bits = omega arith in
         let bit : j ≡ (which * set_bits + j) % set_bits = omega arith in
         ap₂ (λ (w i : ℕ). has (get_or ws w 0) i) word bit ∙ none (which * set_bits + j)
+
+-- so words that mark nothing are the same words
+pub none_same : (ls rs : List ℕ) → length ls ≡ length rs
+    → ((i : ℕ) → get_or ls i 0 < 2 ^ set_bits) → ((i : ℕ) → get_or rs i 0 < 2 ^ set_bits)
+    → ((p : ℕ) → mark_in ls p ≡ false) → ((p : ℕ) → mark_in rs p ≡ false) → ls ≡ rs
+none_same ls rs e fits fits' none none' = ext_get_or 0 ls rs e (λ i _. none_mark ls i (fits i) none ∙ sym (none_mark rs i (fits' i) none'))
+
+-- ---- what `==` says
+
+pub marks_same : (l r : Marks) (t : Bool) → t ≡ pointwise eqb l.words r.words → Decides t (l ≡ r)
+marks_same l r t e =
+    let d : Decides t (l.words ≡ r.words) = slice_eq-Decides Decides-eqb l.words r.words t e in
+    (λ h i. record { words = d.0 h i }, λ h. d.1 (ap (λ (m : Marks). m.words) h))

@@ -1,6 +1,6 @@
 -- Which atoms are marked, by the words.
 -- Assumes nothing.
-use Rattle.std.specs.Prelude.{ℕ, ◌*◌, ◌/◌, ◌%◌, Bool, List, [], ◌∷◌, get_or}
+use Rattle.std.specs.Prelude.{ℕ, ◌*◌, ◌/◌, ◌%◌, Bool, List, get_or}
 use Rattle.base.specs.paper.Members.{has}
 use Rattle.sets.specs.SetLaws.{set_bits}
 use Rattle.marks.specs.declared.Marks.{Marks}
@@ -12,12 +12,9 @@ words = 4
 abbrev pub markable : ℕ
 markable = words * set_bits
 
-abbrev pub words_of : Marks → List ℕ
-words_of m = m.first ∷ m.second ∷ m.third ∷ m.fourth ∷ []
-
 -- the atom's mark in these words; behind the last word nothing is marked
 unfoldable pub mark_in : List ℕ → ℕ → Bool
 mark_in ws p = has (get_or ws (p / set_bits) 0) (p % set_bits)
 
 unfoldable pub marked : Marks → ℕ → Bool
-marked m p = mark_in (words_of m) p
+marked m p = mark_in m.words p

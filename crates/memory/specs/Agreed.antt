@@ -6,30 +6,31 @@ use Rattle.sets.specs.paper.Kept.{insert}
 use Rattle.searching.specs.paper.Rules.{Node, assumed, children}
 use Rattle.area.specs.Area as layout
 use Rattle.memory.specs.declared.run.Run.{Run}
-use Rattle.memory.specs.States.{TASK, OVER, LIST, FAILED, SPENT, FULL}
+use Rattle.memory.specs.declared.run.State.{State}
+use Rattle.memory.specs.States.{rank, TASK, OVER, LIST, FAILED, SPENT, FULL}
 use Rattle.memory.specs.Machine.{Holds}
 use Rattle.memory.specs.Pieces.{in_state, counting, keeping}
 
 -- it stands in state n
-pub record Standing (image work : List ℕ) (run : Run) (n : ℕ) : Type 0 where
+pub record Standing (image work : List ℕ) (run : Run) (n : State) : Type 0 where
   pub b : Book
   pub all : List Node
   pub holds : Holds image b work run all
   pub state : run.state ≡ n
 
 -- It has moved on to a state of n at the most: what is due is the same.
-pub record Moved (image work : List ℕ) (run : Run) (work' : List ℕ) (run' : Run) (n : ℕ) : Type 0 where
+pub record Moved (image work : List ℕ) (run : Run) (work' : List ℕ) (run' : Run) (n : State) : Type 0 where
   pub holds : (b : Book) (all : List Node) → Holds image b work run all → Holds image b work' run' all
-  pub state : run'.state ≤ n
+  pub state : rank run'.state ≤ rank n
   pub nodes : run'.nodes ≡ run.nodes
   pub count : run'.count ≡ run.count
   pub later : drop layout.end work' ≡ drop layout.end work
 
 -- the same for a piece that does not see the image
-abbrev pub StandingIn : List ℕ → Run → ℕ → Type 0
+abbrev pub StandingIn : List ℕ → Run → State → Type 0
 StandingIn work run n = (image : List ℕ) × Standing image work run n
 
-abbrev pub Moves : List ℕ → Run → List ℕ → Run → ℕ → Type 0
+abbrev pub Moves : List ℕ → Run → List ℕ → Run → State → Type 0
 Moves work run work' run' n = (image : List ℕ) → Moved image work run work' run' n
 
 -- After a failure the newest frame has given its next way; or there is none, and nothing is due.
@@ -41,7 +42,7 @@ pub data Backed (work : List ℕ) (run : Run) (work' : List ℕ) (run' : Run) : 
 pub record Visited (work : List ℕ) (run : Run) (work' : List ℕ) (run' : Run) : Type 0 where
   pub holds : (image : List ℕ) (b : Book) (x : Node) (rest : List Node) → Holds image b work run (x ∷ rest) → Holds image b work' run' (children b x ++ rest)
   pub some : (image : List ℕ) (b : Book) (x : Node) (rest : List Node) → Holds image b work run (x ∷ rest) → x.agenda ≡ [] → ⊥
-  pub state : run'.state ≤ FAILED
+  pub state : rank run'.state ≤ rank FAILED
   pub nodes : run'.nodes ≡ run.nodes
   pub count : run'.count ≡ run.count
   pub later : drop layout.end work' ≡ drop layout.end work

@@ -13,6 +13,7 @@ use Rattle.area.specs.Area as layout
 use Rattle.memory.specs.Places.{entry_at, frame_at, entry, entry_literal, frame_marks, frame_set, frame_agenda, frame_way}
 use Rattle.memory.specs.declared.run.Agenda.{Agenda}
 use Rattle.memory.specs.declared.run.Run.{Run}
+use Rattle.memory.specs.declared.run.State.{State}
 use Rattle.memory.specs.States.{TASK, AGENDA, LIST, WAY, FAILED}
 
 -- ---- the work area
@@ -92,7 +93,7 @@ module _ (image : List ℕ) (book : Book) (tab : ℕ → ℕ) (work : List ℕ) 
 
   -- ---- the run: what is due, before what the frames hold, by its state, its task and its agenda
 
-  pub data Hand (k m used : ℕ) (sheet : List Lit) (due : List Node) (task : ℕ) (a : Agenda) : ℕ → List Node → Type 0 where
+  pub data Hand (k m used : ℕ) (sheet : List Lit) (due : List Node) (task : ℕ) (a : Agenda) : State → List Node → Type 0 where
     -- a literal in hand, a record, or the end of all tasks
     literal : {ts : List Task} → task < layout.literal_numbers → Leads m a ts → Fine book k (node_of (want (lit_of task) ∷ ts) sheet)
         → Hand k m used sheet due task a TASK (node_of (want (lit_of task) ∷ ts) sheet ∷ due)
@@ -130,15 +131,15 @@ pub record Holds (image : List ℕ) (b : Book) (work : List ℕ) (run : Run) (al
 
 -- over this memory: a hand with this task and agenda in state n, and that of a run
 module _ {image : List ℕ} {book : Book} {work : List ℕ} {run : Run} {all : List Node} (memory : Holds image book work run all) where
-  abbrev pub HandIn : ℕ → ℕ → Agenda → List Node → Type 0
+  abbrev pub HandIn : State → ℕ → Agenda → List Node → Type 0
   HandIn n task a xs = Hand image book memory.tab work memory.height memory.marks memory.used memory.sheet memory.due task a n xs
 
   abbrev pub HandOf : Run → List Node → Type 0
   HandOf q xs = HandIn q.state q.task q.agenda xs
 
   -- what the machine has in hand in a state: what it is, is then read off the constructors of that state
-  pub in_hand : {n : ℕ} → run.state ≡ n → HandIn n run.task run.agenda all
-  in_hand e = subst (λ (m : ℕ). HandIn m run.task run.agenda all) e memory.hand
+  pub in_hand : {n : State} → run.state ≡ n → HandIn n run.task run.agenda all
+  in_hand e = subst (λ (m : State). HandIn m run.task run.agenda all) e memory.hand
 
   -- another run over the same memory
   pub with_hand : {all' : List Node} (q : Run) → q.set ≡ run.set → q.marked ≡ run.marked → q.top ≡ run.top → HandOf q all' → Holds image book work q all'

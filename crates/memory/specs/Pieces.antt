@@ -6,13 +6,14 @@ use Rattle.area.specs.Area as layout
 use Rattle.memory.specs.Places.{bits32, cell_agenda}
 use Rattle.memory.specs.declared.run.Agenda.{Agenda}
 use Rattle.memory.specs.declared.run.Run.{Run}
+use Rattle.memory.specs.declared.run.State.{State}
 use Rattle.memory.specs.States.{AGENDA, FAILED}
 
-abbrev pub in_state : Run → ℕ → Run
+abbrev pub in_state : Run → State → Run
 in_state run n =
     record { state = n; task = run.task; agenda = run.agenda; marked = run.marked; top = run.top; nodes = run.nodes; count = run.count; set = run.set }
 
-abbrev pub giving : Run → ℕ → ℕ → Run
+abbrev pub giving : Run → State → ℕ → Run
 giving run n t =
     record { state = n; task = t; agenda = run.agenda; marked = run.marked; top = run.top; nodes = run.nodes; count = run.count; set = run.set }
 

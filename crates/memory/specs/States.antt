@@ -1,44 +1,75 @@
--- The states of a run, named as in the code (src/run). A step's states fall: a visit ends in FAILED at the most, and then each piece passes
--- from a state of n at the most to one below n, from FAILED to WAY, LIST and AGENDA, and from there to TASK, since OVER is no state of a
--- machine at work. So each piece is called once, in this order, and a step is proved by one fact for each piece.
+-- The states of a run, and their ranks. A step's states fall: a visit ends in FAILED at the most, and then each piece passes from a state of
+-- n at the most to one below n, from FAILED to WAY, LIST and AGENDA, and from there to TASK, since OVER is no state of a machine at work. So
+-- each piece is called once, in this order, and a step is proved by one fact for each piece.
 -- Assumes nothing.
-use Rattle.std.specs.Prelude.{ℕ, ◌≤◌}
+use Rattle.std.specs.Prelude.{ℕ, zero, suc, ◌≤◌, ◌≡◌}
+use Rattle.std.proofs.Common.{refl, sym, ap, ◌∙◌}
+use Rattle.memory.specs.declared.run.State.{State}
+use Rattle.memory.specs.declared.run.State.TheVariants.{Task, Agenda, List, Way, Failed, Over, Spent, Full}
 
--- ---- at work
+-- ---- named apart from tasks, agendas and lists
 
--- the task, a literal or a record, is in hand, and the agenda behind it
-abbrev pub TASK : ℕ
-TASK = 0
+abbrev pub TASK : State
+TASK = Task
 
--- the agenda is in hand
-abbrev pub AGENDA : ℕ
-AGENDA = 2
+abbrev pub AGENDA : State
+AGENDA = Agenda
 
--- the task is a list to be entered
-abbrev pub LIST : ℕ
-LIST = 3
+abbrev pub LIST : State
+LIST = List
 
--- the task is a way to be taken, the first of a chain
-abbrev pub WAY : ℕ
-WAY = 4
+abbrev pub WAY : State
+WAY = Way
 
--- the node failed
-abbrev pub FAILED : ℕ
-FAILED = 5
+abbrev pub FAILED : State
+FAILED = Failed
 
--- ---- at the end
+abbrev pub OVER : State
+OVER = Over
 
--- every node is visited
-abbrev pub OVER : ℕ
-OVER = 1
+abbrev pub SPENT : State
+SPENT = Spent
 
--- the budget is spent, and the list is full: the refusals' numbers
-abbrev pub SPENT : ℕ
-SPENT = 30
+abbrev pub FULL : State
+FULL = Full
 
-abbrev pub FULL : ℕ
-FULL = 31
+-- ---- their order
+
+abbrev pub rank : State → ℕ
+rank Task = 0
+rank Over = 1
+rank Agenda = 2
+rank List = 3
+rank Way = 4
+rank Failed = 5
+rank Spent = 6
+rank Full = 7
+
+of_rank : ℕ → State
+of_rank zero = Task
+of_rank (suc zero) = Over
+of_rank (suc (suc zero)) = Agenda
+of_rank (suc (suc (suc zero))) = List
+of_rank (suc (suc (suc (suc zero)))) = Way
+of_rank (suc (suc (suc (suc (suc zero))))) = Failed
+of_rank (suc (suc (suc (suc (suc (suc zero)))))) = Spent
+of_rank (suc (suc (suc (suc (suc (suc (suc n))))))) = Full
+
+rank_back : (s : State) → of_rank (rank s) ≡ s
+unfolding of_rank
+rank_back Task = refl
+rank_back Over = refl
+rank_back Agenda = refl
+rank_back List = refl
+rank_back Way = refl
+rank_back Failed = refl
+rank_back Spent = refl
+rank_back Full = refl
+
+-- a rank tells its state
+pub rank_tells : (s t : State) → rank s ≡ rank t → s ≡ t
+rank_tells s t e = sym (rank_back s) ∙ ap of_rank e ∙ rank_back t
 
 -- the states that a piece passes on from
-abbrev pub Passing : ℕ → Type 0
-Passing n = (AGENDA ≤ n) × (n ≤ FAILED)
+abbrev pub Passing : State → Type 0
+Passing n = (rank AGENDA ≤ rank n) × (rank n ≤ rank FAILED)

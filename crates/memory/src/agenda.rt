@@ -5,7 +5,7 @@ ghost use Rattle.memory.specs.States.{TASK, AGENDA, LIST};
 ghost use Rattle.memory.specs.Pieces.{Layable, LaidDown, Refilled};
 ghost use Rattle.memory.specs.Agreed.{Standing, Moved, StandingIn, Moves};
 
-use super::run::{AGENDA, Agenda, Run, TASK, agenda_of, given, in_state, wide, word};
+use super::run::{Agenda, Run, State};
 use area::{LITERAL_NUMBERS, NO_LIST, PLACES, TRAIL_WIDTH};
 use image::fields::field_at;
 
@@ -30,21 +30,20 @@ fn refilled(work: &[u32], r: Run) -> Run
     requires { (r.agenda.link + 2 < length work.now) × (r.agenda.link < layout.end) }
     ensures { Refilled work.now r result }
 {
-    if r.agenda.at == r.agenda.end {
-        let c = r.agenda.link;
-        let at = word(work, c);
-        let end = word(work, c + 1);
-        let link = word(work, c + 2);
-        return agenda_of(
-            r,
-            Agenda {
-                at: at,
-                end: end,
-                link: link,
-            },
-        );
+    if r.agenda.at != r.agenda.end {
+        return r;
     }
-    r
+    let cell = r.agenda.link;
+    let agenda = Agenda {
+        at: work[cell] as usize,
+        end: work[cell + 1] as usize,
+        link: work[cell + 2] as usize,
+    };
+    Run {
+        state: State::Agenda,
+        agenda,
+        ..r
+    }
 }
 
 // A list comes before the agenda.
@@ -54,22 +53,25 @@ pub fn enter(work: &mut [u32], r: Run) -> Run
 {
     let list = r.task;
     if list < LITERAL_NUMBERS {
-        return in_state(r, TASK);
+        return Run {
+            state: State::Task,
+            ..r
+        };
     }
     if list == NO_LIST {
-        return in_state(r, AGENDA);
+        return Run {
+            state: State::Agenda,
+            ..r
+        };
     }
     let link = lay(work, r);
-    let from = list % PLACES;
-    let end = from + 2 * (list / PLACES);
-    agenda_of(
-        r,
-        Agenda {
-            at: from,
-            end: end,
-            link: link,
-        },
-    )
+    let at = list % PLACES;
+    let end = at + 2 * (list / PLACES);
+    Run {
+        state: State::Agenda,
+        agenda: Agenda { at, end, link },
+        ..r
+    }
 }
 
 // The agenda's first task is in hand.
@@ -77,14 +79,26 @@ pub fn front(image: &[u8], work: &[u32], r: Run) -> Run
     requires { Standing image.now work.now r AGENDA }
     ensures { Moved image.now work.now r work.now result TASK }
 {
-    let mut q = refilled(work, r);
+    let q = refilled(work, r);
     let at = q.agenda.at;
     if at < q.agenda.end {
-        let next = at + 2;
-        q.agenda.at = next;
-        return given(q, TASK, wide(field_at(image, at)));
+        return Run {
+            state: State::Task,
+            task: field_at(image, at) as usize,
+            agenda: Agenda {
+                at: at + 2,
+                ..q.agenda
+            },
+            ..q
+        };
     }
-    let next = word(work, at + 1);
-    q.agenda.at = next;
-    given(q, TASK, at)
+    Run {
+        state: State::Task,
+        task: at,
+        agenda: Agenda {
+            at: work[at + 1] as usize,
+            ..q.agenda
+        },
+        ..q
+    }
 }

@@ -1,7 +1,8 @@
 -- The table of names in memory: an entry for each name, and for each bucket a chain from its latest entry back. A link is 1 + the entry that
 -- it leads to, or 0.
 -- Assumes nothing.
-use Rattle.std.specs.Prelude.{ℕ, zero, suc, ◌+◌, ◌*◌, ◌-◌, ◌/◌, ◌%◌, ◌≤◌, ◌<◌, ◌≡◌, refl, Bool, true, false, ◌||◌, ◌⊎◌, List, [], ◌∷◌, ◌++◌, map, length, get_or, set, replicate, ltb, eqb}
+use Rattle.std.specs.Prelude.{ℕ, zero, suc, ◌+◌, ◌*◌, ◌-◌, ◌/◌, ◌%◌, ◌≤◌, ◌<◌, ◌≡◌, refl, Bool, true, false, ◌||◌, ◌⊎◌, Option, Some, None, List, [], ◌∷◌, ◌++◌, map, length, get_or, set, replicate, ltb, eqb}
+use Rattle.std.specs.Int.{from_bool}
 use Rattle.std.proofs.Common.{arith, ◌∙◌, subst, subst₂, inl, inr, ⊎_elim, length-append, length-set, get_or-set_same, get_or-set_other, eq-or-lt_of_le, ltb-true, ltb-false, eqb-true}
 use Rattle.std.proofs.Math.Path.{sym, ap}
 use Rattle.std.proofs.lemmas.List.{map-append, length-map, get_or-replicate}
@@ -48,9 +49,9 @@ pub record Chained (text entries earlier latest : List ℕ) (table : List Atom) 
   pub last : (h : ℕ) → h < buckets → Linked table h (get_or latest h 0) (length table)
   pub back : (i : ℕ) → i < length table → Linked table (hash_in table i) (get_or earlier i 0) i
 
--- 1 + the name's place in the table, or 0
-unfoldable pub place_of : List Atom → Word → ℕ
-place_of table w = choose (known table w) (number_of (names table) w + 1) 0
+-- the name's place in the table
+unfoldable pub place_of : List Atom → Word → Option ℕ
+place_of table w = choose (known table w) (Some (number_of (names table) w)) None
 
 -- ---- the empty table
 
@@ -161,23 +162,23 @@ module _ {text entries earlier latest : List ℕ} {table : List Atom} {at : ℕ}
       none j m f =
           ⊎_elim (λ (q : i ≡ j). subst (λ (k : ℕ). same w (name_in table k) ≡ false) q e) (λ (q : i < j). p.none j m (omega arith)) (eq-or-lt_of_le f)
 
-  found_place : (w : Word) (i : ℕ) → i < length table → same w (name_in table i) ≡ true → i + 1 ≡ place_of table w
+  found_place : (w : Word) (i : ℕ) → i < length table → same w (name_in table i) ≡ true → Some i ≡ place_of table w
   unfolding place_of
   found_place w i l e =
-      ap (λ (k : ℕ). k + 1) (sym (number_place table w i c.once l e))
-      ∙ sym (choose_true (number_of (names table) w + 1) 0 (known_here table w i l e))
+      ap Some (sym (number_place table w i c.once l e))
+      ∙ sym (choose_true (Some (number_of (names table) w)) None (known_here table w i l e))
 
   -- the entry that a link leads to has another name, or the name
   pub passed_next : (w : Word) (link : ℕ) → 0 < link → Passed table w link → same w (name_in table (link - 1)) ≡ false → Passed table w (get_or earlier (link - 1) 0)
   passed_next w link l p e = passed_back w (link - 1) (subst (Passed table w) (let q : link ≡ link - 1 + 1 = omega arith in q) p) e
 
-  pub found : (w : Word) (link : ℕ) → 0 < link → Passed table w link → same w (name_in table (link - 1)) ≡ true → link ≡ place_of table w
-  found w link l p e = (let q : link ≡ link - 1 + 1 = omega arith in q) ∙ found_place w (link - 1) (omega (arith, p.within)) e
+  pub found : (w : Word) (link : ℕ) → 0 < link → Passed table w link → same w (name_in table (link - 1)) ≡ true → Some (link - 1) ≡ place_of table w
+  found w link l p e = found_place w (link - 1) (omega (arith, p.within)) e
 
-  pub none_found : (w : Word) → Passed table w 0 → 0 ≡ place_of table w
+  pub none_found : (w : Word) → Passed table w 0 → None ≡ place_of table w
   unfolding place_of
   none_found w p =
-      sym (choose_false (number_of (names table) w + 1) 0 (known_none table w (λ j l. p.none j l (omega arith))))
+      sym (choose_false (Some (number_of (names table) w)) None (known_none table w (λ j l. p.none j l (omega arith))))
 
 -- ---- one name more
 
@@ -230,9 +231,10 @@ unknown table w k v m e =
     let s = map_∈ name_of table m in
     clash (some_any (λ (a : Atom). same w a.name) table (s.0, s.1, subst (λ (u : Word). same u s.0.name ≡ true) (sym s.2 ∙ e) (same_refl s.0.name))) k
 
-pub bit_most : (t : Bool) → bit t ≤ 1
-bit_most true = omega arith
-bit_most false = omega arith
+-- as the library numbers a test
+pub bit_from : (t : Bool) → from_bool t ≡ bit t
+bit_from true = refl
+bit_from false = refl
 
 abbrev pub entry_of : ℕ → Bool → ℕ
 entry_of at marked = 2 * at + bit marked

@@ -1,9 +1,9 @@
 -- A name that is met: its number, what it adds to the table, and whether its mark differs from the entry's.
 -- Assumes nothing.
-use Rattle.std.specs.Prelude.{ℕ, suc, ◌+◌, ◌-◌, ◌%◌, ◌≤◌, ◌<◌, ◌≡◌, refl, Bool, true, false, ◌&&◌, ◌||◌, List, [], ◌∷◌, ◌++◌, length, get_or, set, eqb}
+use Rattle.std.specs.Prelude.{ℕ, suc, ◌+◌, ◌%◌, ◌≤◌, ◌<◌, ◌≡◌, refl, Bool, true, false, ◌&&◌, ◌||◌, Option, Some, None, MatchOption, List, [], ◌∷◌, ◌++◌, length, get_or, set, eqb}
 use Rattle.std.proofs.Common.{arith, ap₂, ◌∙◌, subst, ⊎_elim, length-append}
 use Rattle.std.proofs.Math.Path.{sym, ap, subst₃}
-use Rattle.std.proofs.Math.Bool.{not}
+use Rattle.std.proofs.Math.Bool.{not, or-false}
 use Rattle.base.specs.paper.Bools.{choose}
 use Rattle.base.specs.Bools.{clash, decide, choose_true, choose_false}
 use Rattle.base.specs.paper.Lists.{put, filter, Once}
@@ -18,7 +18,8 @@ use Rattle.spelling.specs.Reader.{atom_of}
 use Rattle.spelling.specs.Codes.{buckets, hash_of, first_name}
 use Rattle.spelling.specs.Table.{name_of, is_marked, known, enter, other, differs, name_at, bit, no_atom}
 use Rattle.naming.specs.Spans.{Name}
-use Rattle.naming.specs.Chains.{names, Chained, place_of, entry_of, chained_more}
+use Rattle.naming.specs.Chains.{names, Chained, Empty, place_of, entry_of, chained_more}
+use Rattle.naming.specs.declared.Table.{Table}
 
 -- a name of n bytes with its bucket
 pub record Sought (text : List ℕ) (at n hash : ℕ) : Type 0 where
@@ -28,23 +29,33 @@ pub record Sought (text : List ℕ) (at n hash : ℕ) : Type 0 where
   pub hashed : hash ≡ hash_of (name_at text at)
   pub bucket : hash < buckets
 
+-- a table to begin with
+pub record Fresh (t : Table) : Type 0 where
+  pub long : (length t.entries ≡ longest_text) × (length t.earlier ≡ longest_text) × (length t.latest ≡ buckets)
+  pub empty : Empty t.latest
+  pub none : (t.names ≡ 0) × (t.marked ≡ 0)
+  pub single : t.clash ≡ false
+
 -- an entry written
-pub record Written (entries earlier latest : List ℕ) (count at hash : ℕ) (marked : Bool) (entries' earlier' latest' : List ℕ) : Type 0 where
-  pub entry : entries' ≡ set entries count (entry_of at marked)
-  pub back : earlier' ≡ set earlier count (get_or latest hash 0)
-  pub last : latest' ≡ set latest hash (count + 1)
+pub record Written (t : Table) (at hash : ℕ) (marked : Bool) (t' : Table) : Type 0 where
+  pub entry : t'.entries ≡ set t.entries t.names (entry_of at marked)
+  pub back : t'.earlier ≡ set t.earlier t.names (get_or t.latest hash 0)
+  pub last : t'.latest ≡ set t.latest hash (t.names + 1)
+  pub counted : t'.names ≡ t.names + 1
+  pub marks : t'.marked ≡ t.marked + bit marked
+  pub clash : t'.clash ≡ t.clash
 
 -- the table with its counts
-pub record Listed (text entries earlier latest : List ℕ) (table : List Atom) (at count marks : ℕ) : Type 0 where
-  pub chained : Chained text entries earlier latest table at
-  pub counted : count ≡ length table
-  pub marked : marks ≡ length (filter is_marked table)
+pub record Listed (text : List ℕ) (t : Table) (table : List Atom) (at : ℕ) : Type 0 where
+  pub chained : Chained text t.entries t.earlier t.latest table at
+  pub counted : t.names ≡ length table
+  pub marked : t.marked ≡ length (filter is_marked table)
 
 -- a name that was met, entered where it is new
-pub record NameTaken (text entries earlier latest : List ℕ) (table : List Atom) (a : Atom) (at code count marks : ℕ) (differing : Bool) : Type 0 where
+pub record NameTaken (text : List ℕ) (t t' : Table) (table : List Atom) (a : Atom) (at code : ℕ) : Type 0 where
   pub coded : code ≡ first_name + number_of (names (enter table a)) a.name
-  pub listed : Listed text entries earlier latest (enter table a) at count marks
-  pub differs : differing ≡ differs table a
+  pub listed : Listed text t' (enter table a) at
+  pub clashed : t'.clash ≡ (t.clash || differs table a)
 
 -- ---- the table and a name
 
@@ -136,29 +147,18 @@ other_bits false false = refl
 
 -- ---- a name is met
 
-pub place_most : (table : List Atom) (w : Word) → place_of table w ≤ length table
+placed : (table : List Atom) (w : Word) (place : Option ℕ) → place ≡ place_of table w
+    → MatchOption place (known table w ≡ false) (λ i. (known table w ≡ true) × (i ≡ number_of (names table) w))
 unfolding place_of
-place_most table w = go (known table w) refl
+placed table w place e = subst (λ (p : Option ℕ). MatchOption p (known table w ≡ false) (λ i. (known table w ≡ true) × (i ≡ number_of (names table) w))) (sym e) (go (known table w) refl)
   where
-    go : (t : Bool) → known table w ≡ t → choose t (number_of (names table) w + 1) 0 ≤ length table
-    go true k = omega (arith, number_below w table k)
-    go false k = omega arith
+    go : (t : Bool) → known table w ≡ t
+        → MatchOption (choose t (Some (number_of (names table) w)) None) (known table w ≡ false) (λ i. (known table w ≡ true) × (i ≡ number_of (names table) w))
+    go true k = (k, refl)
+    go false k = k
 
-placed_none : (table : List Atom) (w : Word) → place_of table w ≡ 0 → known table w ≡ false
-unfolding place_of
-placed_none table w e = go (known table w) e
-  where
-    go : (t : Bool) → choose t (number_of (names table) w + 1) 0 ≡ 0 → t ≡ false
-    go true q = absurd (omega (arith, q))
-    go false q = refl
-
-placed_known : (table : List Atom) (w : Word) (place : ℕ) → place ≡ place_of table w → (place ≡ 0 → ⊥) → (known table w ≡ true) × (place ≡ number_of (names table) w + 1)
-unfolding place_of
-placed_known table w place e n = go (known table w) e
-  where
-    go : (t : Bool) → place ≡ choose t (number_of (names table) w + 1) 0 → (t ≡ true) × (place ≡ number_of (names table) w + 1)
-    go true q = (refl, q)
-    go false q = absurd (n q)
+pub place_below : (table : List Atom) (w : Word) (i : ℕ) → Some i ≡ place_of table w → i < length table
+place_below table w i e = let p = placed table w (Some i) e in omega (arith, number_below w table p.0, p.1)
 
 chained_on : {text entries earlier latest : List ℕ} {table : List Atom} {at : ℕ} (next : ℕ) → at ≤ next → Chained text entries earlier latest table at
     → Chained text entries earlier latest table next
@@ -173,35 +173,33 @@ chained_on next l c =
       back = c.back;
     }
 
-pub listed_on : {text entries earlier latest : List ℕ} {table : List Atom} {at count marks : ℕ} (next : ℕ) → at ≤ next
-    → Listed text entries earlier latest table at count marks → Listed text entries earlier latest table next count marks
+pub listed_on : {text : List ℕ} {t : Table} {table : List Atom} {at : ℕ} (next : ℕ) → at ≤ next → Listed text t table at → Listed text t table next
 listed_on next l d = record { chained = chained_on next l d.chained; counted = d.counted; marked = d.marked }
 
-module _ {text entries earlier latest : List ℕ} {table : List Atom} {at n hash count marks : ℕ} (s : Sought text at n hash)
-    (d : Listed text entries earlier latest table at count marks) (marked : Bool) where
+module _ {text : List ℕ} {t : Table} {table : List Atom} {at n hash : ℕ} (s : Sought text at n hash) (d : Listed text t table at) (marked : Bool) where
   -- a table that the name leaves so
-  met : {entries' earlier' latest' : List ℕ} (table' : List Atom) {code count' marks' : ℕ} {differing : Bool} → enter table (atom_of (name_at text at) marked) ≡ table'
-      → code ≡ first_name + number_of (names table') (name_at text at) → Listed text entries' earlier' latest' table' (at + 1) count' marks'
-      → differing ≡ differs table (atom_of (name_at text at) marked)
-      → NameTaken text entries' earlier' latest' table (atom_of (name_at text at) marked) (at + 1) code count' marks' differing
-  met {entries' = entries'} {earlier' = earlier'} {latest' = latest'} table' {code = code} {count' = count'} {marks' = marks'} e coded listed f =
+  met : {t' : Table} (table' : List Atom) {code : ℕ} → enter table (atom_of (name_at text at) marked) ≡ table'
+      → code ≡ first_name + number_of (names table') (name_at text at) → Listed text t' table' (at + 1)
+      → t'.clash ≡ (t.clash || differs table (atom_of (name_at text at) marked))
+      → NameTaken text t t' table (atom_of (name_at text at) marked) (at + 1) code
+  met {t' = t'} table' {code = code} e coded listed f =
       record {
-        coded = coded ∙ ap (λ (t : List Atom). first_name + number_of (names t) (name_at text at)) (sym e);
-        listed = subst (λ (t : List Atom). Listed text entries' earlier' latest' t (at + 1) count' marks') (sym e) listed;
-        differs = f;
+        coded = coded ∙ ap (λ (l : List Atom). first_name + number_of (names l) (name_at text at)) (sym e);
+        listed = subst (λ (l : List Atom). Listed text t' l (at + 1)) (sym e) listed;
+        clashed = f;
       }
 
-  pub met_new : {entries' earlier' latest' : List ℕ} {b : ℕ} → b ≡ bit marked → 0 ≡ place_of table (name_at text at) → Written entries earlier latest count at hash marked entries' earlier' latest'
-      → NameTaken text entries' earlier' latest' table (atom_of (name_at text at) marked) (at + 1) (first_name + count) (count + 1) (marks + b) false
+  pub met_new : {t' : Table} → None ≡ place_of table (name_at text at) → Written t at hash marked t'
+      → NameTaken text t t' table (atom_of (name_at text at) marked) (at + 1) (first_name + t.names)
   unfolding enter
-  met_new {entries' = entries'} {earlier' = earlier'} {latest' = latest'} {b = b} f e w =
+  met_new {t' = t'} e w =
       met more (choose_false table more new) (ap (λ (k : ℕ). first_name + k) (d.counted ∙ sym (number_new (name_at text at) table marked new)))
       (record {
         chained = chained;
-        counted = ap (λ (k : ℕ). k + 1) d.counted ∙ sym (length-append table (a ∷ []));
-        marked = omega (arith, d.marked, f, marks_more table a);
+        counted = w.counted ∙ ap (λ (k : ℕ). k + 1) d.counted ∙ sym (length-append table (a ∷ []));
+        marked = omega (arith, w.marks, d.marked, marks_more table a);
       })
-      (sym (differs_none (name_at text at) table marked new))
+      (w.clash ∙ sym (or-false t.clash) ∙ ap (λ (b : Bool). t.clash || b) (sym (differs_none (name_at text at) table marked new)))
     where
       a : Atom
       a = atom_of (name_at text at) marked
@@ -210,22 +208,25 @@ module _ {text entries earlier latest : List ℕ} {table : List Atom} {at n hash
       more = table ++ a ∷ []
 
       new : known table (name_at text at) ≡ false
-      new = placed_none table (name_at text at) (sym e)
+      new = placed table (name_at text at) None e
 
-      chained : Chained text entries' earlier' latest' more (at + 1)
+      chained : Chained text t'.entries t'.earlier t'.latest more (at + 1)
       chained =
           subst₃ (λ (x y z : List ℕ). Chained text x y z more (at + 1)) (sym w.entry) (sym w.back) (sym w.last)
-          (chained_more d.chained count hash marked d.counted s.hashed s.bucket (omega (arith, s.name.within, s.some)) s.short new)
+          (chained_more d.chained t.names hash marked d.counted s.hashed s.bucket (omega (arith, s.name.within, s.some)) s.short new)
 
-  pub met_known : {b : ℕ} → b ≡ bit marked → (place : ℕ) → place ≡ place_of table (name_at text at) → (place ≡ 0 → ⊥)
-      → NameTaken text entries earlier latest table (atom_of (name_at text at) marked) (at + 1) (first_name + (place - 1)) count marks
-      (not (eqb (get_or entries (place - 1) 0 % 2) b))
+  -- a known name leaves all but the clash
+  pub met_known : {t' : Table} {b : ℕ} → b ≡ bit marked → (i : ℕ) → Some i ≡ place_of table (name_at text at) → Listed text t' table at
+      → t'.clash ≡ (t.clash || not (eqb (get_or t.entries i 0 % 2) b))
+      → NameTaken text t t' table (atom_of (name_at text at) marked) (at + 1) (first_name + i)
   unfolding enter
-  met_known {b = b} f place e some =
-      met table (choose_true table (table ++ a ∷ []) old) (ap (λ (k : ℕ). first_name + k) at_number) (listed_on (at + 1) (omega arith) d)
+  met_known {b = b} f i e l c =
+      met table (choose_true table (table ++ a ∷ []) old) (ap (λ (k : ℕ). first_name + k) at_number) (listed_on (at + 1) (omega arith) l)
+      (c
+      ∙ ap (λ (x : Bool). t.clash || x)
       (ap₂ (λ (x y : ℕ). not (eqb x y)) mark f
       ∙ other_bits (get_or table (number_of (names table) w) no_atom).marked marked
-      ∙ sym (differs_one w table marked d.chained.once old))
+      ∙ sym (differs_one w table marked d.chained.once old)))
     where
       w : Word
       w = name_at text at
@@ -234,10 +235,10 @@ module _ {text entries earlier latest : List ℕ} {table : List Atom} {at n hash
       a = atom_of w marked
 
       old : known table w ≡ true
-      old = (placed_known table w place e some).0
+      old = (placed table w (Some i) e).0
 
-      at_number : place - 1 ≡ number_of (names table) w
-      at_number = omega (arith, (placed_known table w place e some).1)
+      at_number : i ≡ number_of (names table) w
+      at_number = (placed table w (Some i) e).1
 
-      mark : get_or entries (place - 1) 0 % 2 ≡ bit (get_or table (number_of (names table) w) no_atom).marked
-      mark = ap (λ (k : ℕ). get_or entries k 0 % 2) at_number ∙ (d.chained.placed (number_of (names table) w) (number_below w table old)).mark
+      mark : get_or t.entries i 0 % 2 ≡ bit (get_or table (number_of (names table) w) no_atom).marked
+      mark = ap (λ (k : ℕ). get_or t.entries k 0 % 2) at_number ∙ (d.chained.placed (number_of (names table) w) (number_below w table old)).mark

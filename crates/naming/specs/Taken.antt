@@ -1,12 +1,11 @@
 -- All words of a text as the code leaves them, and what the words so far leave.
 -- Assumes nothing.
-use Rattle.std.specs.Prelude.{ℕ, ◌+◌, ◌≤◌, ◌<◌, ◌≡◌, refl, Bool, true, false, ◌||◌, take, set, replicate, eqb}
+use Rattle.std.specs.Prelude.{ℕ, ◌+◌, ◌≤◌, ◌<◌, ◌≡◌, refl, Bool, true, false, ◌||◌, take, set, eqb}
 use Rattle.std.proofs.Common.{arith, ◌∙◌, length-append, length-set}
 use Rattle.std.proofs.Math.Path.{sym, ap, ap₂, subst}
 use Rattle.std.proofs.Math.Bool.{or_assoc, or-false}
 use mathlib.Core.List.{List, [], ◌∷◌, ◌++◌, map, map-append, append_assoc, append-nil}
 use Rattle.std.proofs.Math.ListN.{length}
-use Rattle.std.proofs.lemmas.List.{length-replicate}
 use Rattle.base.specs.paper.Lists.{Every, filter}
 use Rattle.base.specs.Lists.{every_none, every_more, every_both}
 use Rattle.base.specs.Stores.{stored}
@@ -15,12 +14,13 @@ use Rattle.spelling.specs.paper.Document.{Atom}
 use Rattle.spelling.specs.paper.Answer.{longest_text}
 use Rattle.spelling.specs.Cut.{words as words_of}
 use Rattle.spelling.proofs.Mentioned.{scan}
-use Rattle.spelling.specs.Codes.{abd_code, buckets, code_of, codes_of}
+use Rattle.spelling.specs.Codes.{abd_code, code_of, codes_of}
 use Rattle.spelling.specs.Table.{name_of, is_marked, known, entered, table_of, clashes, Entries}
 use Rattle.cutting.specs.CutOff.{word_at, BlanksEnd}
-use Rattle.naming.specs.Chains.{names, Empty, empty_none, chained_none}
-use Rattle.naming.specs.Names.{Listed, listed_on}
-use Rattle.naming.specs.Words.{after, Past, WordTaken, words_from, words_start, words_next, words_over, entered_next, clashes_next, grown, Told, known_kept, known_new, codes_kept, code_abd}
+use Rattle.naming.specs.Chains.{names, chained_none}
+use Rattle.naming.specs.declared.Table.{Table}
+use Rattle.naming.specs.Names.{Fresh, Listed, listed_on}
+use Rattle.naming.specs.Words.{after, clashing, Past, WordTaken, words_from, words_start, words_next, words_over, entered_next, clashes_next, grown, Told, known_kept, known_new, codes_kept, code_abd}
 
 -- the mentions of a text, and the table of its names
 abbrev pub mentions_of : List ℕ → List Atom
@@ -29,75 +29,63 @@ mentions_of text = scan false (words_of text)
 abbrev pub names_in : List ℕ → List Atom
 names_in text = table_of (mentions_of text)
 
-pub record TakenWords (text numbers places links : List ℕ) (many count marks : ℕ) (met : Bool) : Type 0 where
+pub record TakenWords (text numbers : List ℕ) (t : Table) (many : ℕ) : Type 0 where
   pub words : many ≡ length (words_of text)
   pub codes : take many numbers ≡ codes_of (map name_of (names_in text)) (words_of text)
-  pub names : count ≡ length (names_in text)
-  pub marked : marks ≡ length (filter is_marked (names_in text))
-  pub clash : met ≡ clashes [] (mentions_of text)
-  pub entries : Entries text places (names_in text)
-  pub few : count ≤ many
+  pub names : t.names ≡ length (names_in text)
+  pub marked : t.marked ≡ length (filter is_marked (names_in text))
+  pub clash : t.clash ≡ clashes [] (mentions_of text)
+  pub entries : Entries text t.entries (names_in text)
+  pub few : t.names ≤ many
   pub short : many ≤ length text
-  pub long : (length numbers ≡ longest_text) × (length places ≡ longest_text) × (length links ≡ longest_text)
+  pub long : (length numbers ≡ longest_text) × (length t.entries ≡ longest_text) × (length t.earlier ≡ longest_text)
 
 -- arrays to begin with
-pub record Ready (text codes entries earlier latest : List ℕ) : Type 0 where
+pub record Ready (text codes : List ℕ) (t : Table) : Type 0 where
   pub short : length text ≤ longest_text
   pub numbers : length codes ≡ longest_text
-  pub table : (length entries ≡ longest_text) × (length earlier ≡ longest_text) × (length latest ≡ buckets)
-  pub empty : Empty latest
-
--- as a caller has them who makes them for it
-pub ready : (text : List ℕ) → length text ≤ longest_text → Ready text (replicate longest_text 0) (replicate longest_text 0) (replicate longest_text 0) (replicate buckets 0)
-ready text l =
-    record {
-      short = l;
-      numbers = length-replicate {A = ℕ} longest_text 0;
-      table = (length-replicate {A = ℕ} longest_text 0, length-replicate {A = ℕ} longest_text 0, length-replicate {A = ℕ} buckets 0);
-      empty = empty_none;
-    }
+  pub fresh : Fresh t
 
 -- what the words before `at` leave; `marked` tells whether the last of them was `abd(`
-pub record Taking (text codes entries earlier latest : List ℕ) (at many count marks : ℕ) (clash marked : Bool) : Type 0 where
+pub record Taking (text codes : List ℕ) (t : Table) (at many : ℕ) (marked : Bool) : Type 0 where
   pub table : List Atom
   pub past : List Word
   pub within : at ≤ length text
   pub short : many ≤ at
-  pub few : count ≤ many
+  pub few : t.names ≤ many
   pub long : length codes ≡ longest_text
   pub counted : many ≡ length past
   pub whole : words_of text ≡ past ++ words_from text at
   pub coded : take many codes ≡ codes_of (names table) past
   pub told : Every (Told table) past
-  pub listed : Listed text entries earlier latest table at count marks
+  pub listed : Listed text t table at
   pub tabled : names_in text ≡ entered table (scan marked (words_from text at))
-  pub clashed : clashes [] (mentions_of text) ≡ (clash || clashes table (scan marked (words_from text at)))
+  pub clashed : clashes [] (mentions_of text) ≡ (t.clash || clashes table (scan marked (words_from text at)))
 
-pub taking_none : {text codes entries earlier latest : List ℕ} {at : ℕ}
-    → Ready text codes entries earlier latest → BlanksEnd text 0 at
-    → Taking text codes entries earlier latest at 0 0 0 false false
-taking_none {text = text} {at = at} r b =
+pub taking_none : {text codes : List ℕ} {t : Table} {at : ℕ} → Ready text codes t → BlanksEnd text 0 at → Taking text codes t at 0 false
+taking_none {text = text} {t = t} {at = at} r b =
+    let f = r.fresh in
     record {
       table = [];
       past = [];
       within = b.within;
       short = omega arith;
-      few = omega arith;
+      few = omega (arith, f.none.0);
       long = r.numbers;
       counted = refl;
       whole = words_start b;
       coded = refl;
       told = every_none (Told []);
-      listed = record { chained = chained_none at r.table r.empty; counted = refl; marked = refl };
+      listed = record { chained = chained_none at f.long f.empty; counted = f.none.0; marked = f.none.1 };
       tabled = ap (λ (ws : List Word). table_of (scan false ws)) (words_start b);
-      clashed = ap (λ (ws : List Word). clashes [] (scan false ws)) (words_start b);
+      clashed = ap (λ (ws : List Word). clashes [] (scan false ws)) (words_start b) ∙ ap (λ (c : Bool). c || clashes [] (scan false (words_from text at))) (sym f.single);
     }
 
-module _ {text codes entries earlier latest : List ℕ} {at many count marks : ℕ} {clash marked : Bool} (t : Taking text codes entries earlier latest at many count marks clash marked) where
-  pub taking_more : {entries' earlier' latest' : List ℕ} {code end next count' marks' : ℕ} {differing : Bool} → at < length text → length text ≤ longest_text → Past text at end
-      → BlanksEnd text end next → WordTaken text entries' earlier' latest' t.table (word_at text at) marked code end count' marks' differing
-      → Taking text (set codes many code) entries' earlier' latest' next (many + 1) count' marks' (clash || differing) (eqb code abd_code)
-  taking_more {code = code} {end = end} {next = next} {count' = count'} {differing = differing} l ll p b d =
+module _ {text codes : List ℕ} {list : Table} {at many : ℕ} {marked : Bool} (t : Taking text codes list at many marked) where
+  pub taking_more : {list' : Table} {code end next : ℕ} → at < length text → length text ≤ longest_text → Past text at end
+      → BlanksEnd text end next → WordTaken text list list' t.table (word_at text at) marked code end
+      → Taking text (set codes many code) list' next (many + 1) (eqb code abd_code)
+  taking_more {list' = list'} {code = code} {end = end} {next = next} l ll p b d =
       record {
         table = table';
         past = t.past ++ w ∷ [];
@@ -120,10 +108,10 @@ module _ {text codes entries earlier latest : List ℕ} {at many count marks : �
             ∙ ap (λ (m : Bool). entered table' (scan m (words_from text next))) (sym flag);
         clashed =
             t.clashed
-            ∙ ap (λ (ws : List Word). clash || clashes t.table (scan marked ws)) on
-            ∙ ap (λ (c : Bool). clash || c) (clashes_next t.table marked w (words_from text next))
-            ∙ ap₂ (λ (c m : Bool). clash || (c || clashes table' (scan m (words_from text next)))) (sym d.clashed) (sym flag)
-            ∙ sym (or_assoc clash differing (clashes table' (scan (eqb code abd_code) (words_from text next))));
+            ∙ ap (λ (ws : List Word). list.clash || clashes t.table (scan marked ws)) on
+            ∙ ap (λ (c : Bool). list.clash || c) (clashes_next t.table marked w (words_from text next))
+            ∙ sym (or_assoc list.clash (clashing t.table w marked) (clashes table' (scan (same w abd) (words_from text next))))
+            ∙ ap₂ (λ (c m : Bool). c || clashes table' (scan m (words_from text next))) (sym d.clashed) (sym flag);
       }
     where
       w : Word
@@ -147,7 +135,7 @@ module _ {text codes entries earlier latest : List ℕ} {at many count marks : �
       told : Every (Told table') t.past
       told v i e = subst (λ (s : List Atom). known s v ≡ true) (sym more.1) (known_kept t.table more.0 v (t.told v i e))
 
-  pub taking_all : length text ≤ at → TakenWords text codes entries earlier many count marks clash
+  pub taking_all : length text ≤ at → TakenWords text codes list many
   unfolding scan
   taking_all l =
       record {
@@ -155,8 +143,8 @@ module _ {text codes entries earlier latest : List ℕ} {at many count marks : �
         codes = t.coded ∙ ap₂ (λ (s : List Atom) (ws : List Word). codes_of (names s) ws) (sym table) (sym over);
         names = t.listed.counted ∙ ap length (sym table);
         marked = t.listed.marked ∙ ap (λ (s : List Atom). length (filter is_marked s)) (sym table);
-        clash = sym (t.clashed ∙ ap (λ (ws : List Word). clash || clashes t.table (scan marked ws)) none ∙ or-false clash);
-        entries = subst (Entries text entries) (sym table) t.listed.chained.placed;
+        clash = sym (t.clashed ∙ ap (λ (ws : List Word). list.clash || clashes t.table (scan marked ws)) none ∙ or-false list.clash);
+        entries = subst (Entries text list.entries) (sym table) t.listed.chained.placed;
         few = t.few;
         short = omega (arith, t.short, t.within);
         long = (t.long, t.listed.chained.long.0, t.listed.chained.long.1);

@@ -2,6 +2,7 @@
 -- Assumes nothing.
 use Rattle.std.specs.Prelude.{ℕ, suc, ◌+◌, ◌-◌, ◌≤◌, ◌<◌, ◌≡◌, refl, Bool, true, false, ◌&&◌, ◌||◌, List, [], ◌∷◌, ◌++◌, length, get_or, drop, eqb}
 use Rattle.std.proofs.Common.{arith, sym, ap, ap₂, ◌∙◌, subst, ⊎_elim, append-nil, drop_of_length-le, ne_eqb}
+use Rattle.std.proofs.Math.Bool.{or-false}
 use Rattle.base.specs.paper.Bools.{choose}
 use Rattle.base.specs.Bools.{decide, choose_true, choose_false, either_left, either_right}
 use Rattle.base.specs.paper.Lists.{Every, put}
@@ -21,6 +22,7 @@ use Rattle.spelling.proofs.Numbering.{number_most}
 use Rattle.spelling.specs.Table.{known, enter, entered, differs, clashes, name_at}
 use Rattle.cutting.specs.CutOff.{word_at, BlanksEnd, CutOff}
 use Rattle.naming.specs.Chains.{names}
+use Rattle.naming.specs.declared.Table.{Table}
 use Rattle.naming.specs.Names.{Sought, Listed, NameTaken, number_kept, listed_on}
 
 -- ---- one word
@@ -37,10 +39,10 @@ pub record Past (text : List ℕ) (at end : ℕ) : Type 0 where
   pub within : end ≤ length text
   pub rest : (cut (drop at text)).rest ≡ drop end text
 
-pub record WordTaken (text entries earlier latest : List ℕ) (table : List Atom) (w : Word) (marked : Bool) (code end count marks : ℕ) (differing : Bool) : Type 0 where
+pub record WordTaken (text : List ℕ) (t t' : Table) (table : List Atom) (w : Word) (marked : Bool) (code end : ℕ) : Type 0 where
   pub coded : code ≡ code_of (names (after table w marked)) w
-  pub listed : Listed text entries earlier latest (after table w marked) end count marks
-  pub clashed : differing ≡ clashing table w marked
+  pub listed : Listed text t' (after table w marked) end
+  pub clashed : t'.clash ≡ (t.clash || clashing table w marked)
 
 -- ---- codes
 
@@ -111,18 +113,18 @@ module _ {text : List ℕ} {at code end hash : ℕ} (c : CutOff text at code end
         bucket = c.bucket;
       }
 
-  module _ {entries earlier latest : List ℕ} {table : List Atom} {marked : Bool} {count marks : ℕ} where
-    pub word_name : {number : ℕ} {differing : Bool} → is_name (word_at text at) ≡ true
-        → NameTaken text entries earlier latest table (atom_of (name_at text at) marked) (at + 1) number count marks differing
-        → WordTaken text entries earlier latest table (word_at text at) marked number end count marks differing
-    word_name e d =
+  module _ {t : Table} {table : List Atom} {marked : Bool} where
+    pub word_name : {t' : Table} {number : ℕ} → is_name (word_at text at) ≡ true
+        → NameTaken text t t' table (atom_of (name_at text at) marked) (at + 1) number
+        → WordTaken text t t' table (word_at text at) marked number end
+    word_name {t' = t'} e d =
         record {
-          coded = d.coded ∙ ap₂ (λ (t : List Atom) (v : Word). first_name + number_of (names t) v) full (c.named e) ∙ sym (code_named (names (after table w marked)) w e);
-          listed = listed_on end (omega (arith, c.ahead)) (subst (λ (t : List Atom). Listed text entries earlier latest t (at + 1) count marks) full d.listed);
+          coded = d.coded ∙ ap₂ (λ (l : List Atom) (v : Word). first_name + number_of (names l) v) full (c.named e) ∙ sym (code_named (names (after table w marked)) w e);
+          listed = listed_on end (omega (arith, c.ahead)) (subst (λ (l : List Atom). Listed text t' l (at + 1)) full d.listed);
           clashed =
-              d.differs
-              ∙ ap (λ (v : Word). differs table (atom_of v marked)) (c.named e)
-              ∙ sym (ap (λ (t : Bool). t && differs table (atom_of w marked)) e);
+              d.clashed
+              ∙ ap (λ (v : Word). t.clash || differs table (atom_of v marked)) (c.named e)
+              ∙ sym (ap (λ (b : Bool). t.clash || (b && differs table (atom_of w marked))) e);
         }
       where
         w : Word
@@ -131,15 +133,14 @@ module _ {text : List ℕ} {at code end hash : ℕ} (c : CutOff text at code end
         full : enter table (atom_of (name_at text at) marked) ≡ after table w marked
         full = ap (λ (v : Word). enter table (atom_of v marked)) (c.named e) ∙ sym (choose_true (enter table (atom_of w marked)) table e)
 
-    pub word_fixed : is_name (word_at text at) ≡ false → Listed text entries earlier latest table at count marks
-        → WordTaken text entries earlier latest table (word_at text at) marked code end count marks false
+    pub word_fixed : is_name (word_at text at) ≡ false → Listed text t table at → WordTaken text t t table (word_at text at) marked code end
     word_fixed e d =
         record {
           coded = c.code ∙ code_fixed [] (names (after table w marked)) w e;
           listed =
-              subst (λ (t : List Atom). Listed text entries earlier latest t end count marks) (sym (choose_false (enter table (atom_of w marked)) table e))
+              subst (λ (l : List Atom). Listed text t l end) (sym (choose_false (enter table (atom_of w marked)) table e))
               (listed_on end (omega (arith, c.ahead)) d);
-          clashed = sym (ap (λ (t : Bool). t && differs table (atom_of w marked)) e);
+          clashed = sym (or-false t.clash) ∙ sym (ap (λ (b : Bool). t.clash || (b && differs table (atom_of w marked))) e);
         }
       where
         w : Word

@@ -27,43 +27,43 @@
 // What an operation does is in crate operations for 1 to 5 and 13, in crate rooms for 6 and 12, and in crate verdicts for 7.
 #![tactic(auto)]
 
-use cases::{input, output};
+use cases::{Stop, input};
 use std::io;
 use std::io::Read;
 
-// The case of this operation, and whether it was well formed.
-fn answered<R: Print, I: Read>(rt: &R, input: &mut I, operation: u64) -> io::Result<bool> {
+// The case of this operation is taken, and its line written.
+fn answered<R: Print, I: Read>(rt: &R, input: &mut I, operation: u8) -> Result<(), Stop> {
     match operation {
         1 => operations::read_case(rt, input),
         2 => operations::judge_case(rt, input),
         3 => operations::list_case(rt, input),
         4 => operations::verdict_case(rt, input),
         5 => operations::join_case(rt, input),
-        6 => rooms::text_case(rt, input),
+        6 => rooms::case(rt, input, text::read),
         7 => verdicts::clean_case(rt, input),
-        12 => rooms::names_case(rt, input),
+        12 => rooms::case(rt, input, text::names),
         13 => operations::admits_case(rt, input),
-        _ => Ok(false),
+        _ => Err(Stop::Malformed),
     }
-}
-
-fn bad_case<R: Print>(rt: &R) -> io::Result<()> {
-    output::line(rt, b"bad case")
 }
 
 // A run ends after so many cases at the latest: a program has an end.
 const MOST_CASES: u32 = 1_000_000_000;
 
-fn main(rt: HostRuntime) -> io::Result<()> {
-    let mut input = rt.stdin();
+fn run<R: Print, I: Read>(rt: &R, input: &mut I) -> Result<(), Stop> {
     for _ in 0..MOST_CASES {
-        let operation = input::take_u8(&mut input);
-        if !operation.ok {
+        let Ok(operation) = input::take_u8(input) else {
             return Ok(());
-        }
-        if !answered(&rt, &mut input, operation.value)? {
-            return bad_case(&rt);
-        }
+        };
+        answered(rt, input, operation)?;
     }
     Ok(())
+}
+
+fn main(rt: HostRuntime) -> io::Result<()> {
+    match run(&rt, &mut rt.stdin()) {
+        Err(Stop::Malformed) => println!(rt; "bad case"),
+        Err(Stop::Unwritten(error)) => Err(error),
+        Ok(()) => Ok(()),
+    }
 }

@@ -5,163 +5,82 @@
 //   refused R room untouched | refused R room other
 #![tactic(auto)]
 
-ghost use Rattle.std.specs.Prelude.{◌≤◌, ◌≡◌, length};
-ghost use Rattle.rooms.specs.Buffers.{text_bytes, room_bytes, digit_bytes};
-
-use cases::{input, output};
-use image::Writing;
-use std::io;
+use cases::{Stop, input};
+use image::refusals::Refusal;
 use std::io::Read;
+use std::{fmt, io};
 
 // The most that a case may name: bytes of a text, and of a room.
 const TEXT: usize = 40000;
 
-pub const ROOM: usize = 10000;
-
-// Two digits for each byte of a room.
-const DIGITS: usize = 2 * ROOM;
+const ROOM: usize = 10000;
 
 // What every byte of a room is before a call.
 const BYTE: u8 = 165;
 
-const TEN: u8 = 10;
-
-const SIXTEEN: u8 = 16;
-
-pub fn text_buffer() -> [u8; TEXT]
-    ensures { text_bytes ≡ length result }
-{
-    [0; TEXT]
-}
-
-pub fn room_buffer() -> [u8; ROOM]
-    ensures { room_bytes ≡ length result }
-{
+pub fn room_buffer() -> [u8; ROOM] {
     [BYTE; ROOM]
 }
 
-fn least(n: usize, most: usize) -> usize
-    ensures { (result ≤ n) × (result ≤ most) }
-{
-    if most < n {
-        return most;
-    }
-    n
-}
+// Bytes as they are told: two digits each.
+#[derive(Clone, Copy)]
+struct Hex<'a>(&'a [u8]);
 
-fn digit(x: u8) -> u8
-    requires { x ≤ 15 }
-{
-    if x < TEN {
-        return b'0' + x;
-    }
-    b'a' + (x - TEN)
-}
-
-fn high_digit(b: u8) -> u8 {
-    digit(b / SIXTEEN)
-}
-
-fn low_digit(b: u8) -> u8 {
-    digit(b % SIXTEEN)
-}
-
-fn digit_buffer() -> [u8; DIGITS]
-    ensures { digit_bytes ≡ length result }
-{
-    [0; DIGITS]
-}
-
-// The first n bytes, two digits each.
-fn hex<R: Print>(rt: &R, room: &[u8], n: usize) -> io::Result<()>
-    requires { (n ≤ length room.now) × (n ≤ room_bytes) }
-{
-    let mut digits = digit_buffer();
-    let mut i = 0;
-    while i < n {
-        let b = room[i];
-        digits[2 * i] = high_digit(b);
-        digits[2 * i + 1] = low_digit(b);
-        i += 1;
-    }
-    rt.write_all(&digits[..2 * n])
-}
-
-// Whether the bytes from `from` on are as they were before the call.
-fn is_untouched(room: &[u8], from: usize) -> bool {
-    let mut i = from;
-    while i < room.len() {
-        if room[i] != BYTE {
-            return false;
+impl fmt::Display for Hex<'_> {
+    fn fmt<W: fmt::Write>(&self, f: &mut fmt::Formatter<W>) -> fmt::Result {
+        for byte in self.0 {
+            write!(f, "{byte:02x}")?;
         }
-        i += 1;
+        Ok(())
     }
-    true
 }
 
-fn left<R: Print>(rt: &R, untouched: bool) -> io::Result<()> {
-    if untouched {
-        output::line(rt, b" untouched")
+// How these bytes were left.
+fn state(bytes: &[u8]) -> &'static str {
+    if bytes.iter().all(|byte| *byte == BYTE) {
+        "untouched"
     } else {
-        output::line(rt, b" other")
+        "other"
     }
-}
-
-fn written<R: Print>(rt: &R, n: u32, room: &[u8]) -> io::Result<()> {
-    print!(rt; "written {n} bytes ")?;
-    let bytes = least(least(n as usize, room.len()), ROOM);
-    hex(rt, room, bytes)?;
-    print!(rt; " rest")?;
-    left(rt, is_untouched(room, bytes))
-}
-
-fn refused<R: Print>(rt: &R, number: u8, room: &[u8]) -> io::Result<()> {
-    print!(rt; "refused {number} room")?;
-    left(rt, is_untouched(room, 0))
 }
 
 // The line of an answer.
-pub fn tell<R: Print>(rt: &R, answer: Writing, room: &[u8]) -> io::Result<()> {
+fn tell<R: Print>(rt: &R, answer: Result<u32, Refusal>, room: &[u8]) -> io::Result<()> {
     match answer {
-        Writing::Written(n) => written(rt, n, room),
-        Writing::Refused(r) => refused(rt, r, room),
+        Ok(n) => {
+            let told = room.len().min(n as usize);
+            let (bytes, rest) = room.split_at(told);
+            println!(rt; "written {n} bytes {} rest {}", Hex(bytes), state(rest))
+        }
+        Err(refusal) => println!(rt; "refused {refusal} room {}", state(room)),
     }
 }
 
-pub fn read<R: Print>(rt: &R, text: &[u8], room: &mut [u8]) -> io::Result<()> {
-    let answer = text::read(text, room);
+// The line of this call.
+pub fn answered<R: Print, F: Fn(&[u8], &mut [u8]) -> Result<u32, Refusal>>(
+    rt: &R,
+    text: &[u8],
+    room: &mut [u8],
+    call: F,
+) -> io::Result<()>
+    requires { F.IsAlwaysCallable call }
+{
+    let answer = call(text, room);
     tell(rt, answer, room)
 }
 
-pub fn names<R: Print>(rt: &R, text: &[u8], room: &mut [u8]) -> io::Result<()> {
-    let answer = text::names(text, room);
-    tell(rt, answer, room)
-}
-
-pub fn text_case<R: Print, I: Read>(rt: &R, input: &mut I) -> io::Result<bool> {
-    let mut text = text_buffer();
+// A case of this call is taken, and its line written.
+pub fn case<R: Print, I: Read, F: Fn(&[u8], &mut [u8]) -> Result<u32, Refusal>>(
+    rt: &R,
+    input: &mut I,
+    call: F,
+) -> Result<(), Stop>
+    requires { F.IsAlwaysCallable call }
+{
+    let mut text = [0; TEXT];
     let mut room = room_buffer();
-    let taken = input::take_image(input, &mut text);
-    let space = input::take_length(input, ROOM);
-    if !(taken.ok && space.ok) {
-        return Ok(false);
-    }
-    let n = taken.value;
-    let r = space.value;
-    read(rt, &text[..n], &mut room[..r])?;
-    Ok(true)
-}
-
-pub fn names_case<R: Print, I: Read>(rt: &R, input: &mut I) -> io::Result<bool> {
-    let mut text = text_buffer();
-    let mut room = room_buffer();
-    let taken = input::take_image(input, &mut text);
-    let space = input::take_length(input, ROOM);
-    if !(taken.ok && space.ok) {
-        return Ok(false);
-    }
-    let n = taken.value;
-    let r = space.value;
-    names(rt, &text[..n], &mut room[..r])?;
-    Ok(true)
+    let text = input::take_image(input, &mut text)?;
+    let room = input::take_area(input, &mut room)?;
+    answered(rt, text, room, call)?;
+    Ok(())
 }

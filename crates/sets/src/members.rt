@@ -5,7 +5,7 @@ ghost use Rattle.base.specs.paper.Members.{has};
 ghost use Rattle.sets.specs.SetLaws.{set_bits};
 
 // A set is a number of so many bits.
-pub const SET_BITS: u32 = 64;
+pub const SET_BITS: u32 = u64::BITS;
 
 // Whether abducible j is in the set.
 pub fn is_in(set: u64, j: u32) -> bool
@@ -27,8 +27,5 @@ pub fn with_member(set: u64, j: u32) -> u64
 pub fn names_above(set: u64, abducibles: u32) -> bool
     ensures { result ≡ leb (2 ^ abducibles) set }
 {
-    if SET_BITS <= abducibles {
-        return false;
-    }
-    0 < set >> abducibles
+    abducibles < SET_BITS && 0 < set >> abducibles
 }

@@ -1,7 +1,7 @@
 -- The ending computed by the reader. It is one that paper/Answer allows, and the only one; so the promise can be kept, and fixes the answer
 -- and every byte of the room.
 -- Assumes nothing.
-use Rattle.std.specs.Prelude.{ℕ, ◌≤◌, ◌<◌, ◌≡◌, Bool, List}
+use Rattle.std.specs.Prelude.{ℕ, ◌≤◌, ◌<◌, ◌≡◌, Bool, List, Result}
 use Rattle.std.proofs.Common.{arith, sym, ◌∙◌, subst}
 use Rattle.std.proofs.Math.Path.{refl, ap}
 use Rattle.std.proofs.Math.Bool.{true, false}
@@ -14,8 +14,9 @@ use Rattle.image.specs.paper.Decode.{Decoded, accepted, refused, decode}
 use Rattle.spelling.specs.paper.Document.{Document}
 use Rattle.spelling.specs.paper.Said.{clashing, book_of}
 use Rattle.spelling.specs.paper.Answer.{longest_text, Says, image_of, Clear, Ends, malformed, clashes, turned, short, whole, Writes}
-use Rattle.image.specs.declared.Writing.{Writing}
-use Rattle.image.specs.paper.Writing.{Ending, bytes, number, answer_of, room_of}
+use Rattle.image.specs.WritingLaws.{writing_tells}
+use Rattle.image.specs.declared.refusals.Refusal.{Refusal}
+use Rattle.image.specs.paper.Writing.{Writing, writing, Ending, bytes, number, answer_of, room_of}
 use Rattle.spelling.specs.Reader.{Parsed, reads, unreadable, parse}
 use Rattle.spelling.proofs.Found.{parse_spelt}
 use Rattle.spelling.proofs.Only.{Outcome, back, limit, head, loop, text_only}
@@ -111,3 +112,10 @@ module _ (what : Document → List ℕ) where
   writes_unique text room r s after later p q =
       let e : p.ending ≡ q.ending = ends_unique text (length room) p.ending q.ending p.ends q.ends in
       (p.answer ∙ ap answer_of e ∙ sym q.answer, p.left ∙ ap (λ (x : Ending). room_of x room) e ∙ sym q.left)
+
+  -- and so what the code returns
+  pub results_unique : (text room : List ℕ) (r s : Result ℕ Refusal) (after later : List ℕ) → Writes what text room (writing r) after
+      → Writes what text room (writing s) later → (r ≡ s) × (after ≡ later)
+  results_unique text room r s after later p q =
+      let same = writes_unique text room (writing r) (writing s) after later p q in
+      (writing_tells r s same.0, same.1)

@@ -13,9 +13,7 @@ use Rattle.spelling.specs.Cut.{span, begins, sign, opened, cut_at, words_by, wor
 use Rattle.spelling.specs.Reader.{next, name, atom, literal as lit, separated, from_head, from_side, statement, goal_line, document, parse}
 use Rattle.spelling.proofs.Answers.{ending}
 use Rattle.spelling.specs.paper.Said.{firsts}
-use Rattle.image.specs.declared.Writing.{Writing}
-use Rattle.image.specs.declared.Writing.TheVariants.{Written, Refused}
-use Rattle.image.specs.paper.Writing.{bytes, number, answer_of}
+use Rattle.image.specs.paper.Writing.{Writing, Written, Refused, bytes, number, answer_of}
 use Rattle.spelling.specs.paper.Answer.{image_of, name_lines}
 
 abbrev spike : String

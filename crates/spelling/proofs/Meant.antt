@@ -22,8 +22,7 @@ use Rattle.image.proofs.Accepted.{loopless}
 use Rattle.spelling.specs.paper.Document.{Atom, Literal, Statement, clause, constraint, Document}
 use Rattle.spelling.specs.paper.Said.{atoms_in, mentions_in, mentions, numbered, number_of, lit_in, clauses_in, clashing, book_of}
 use Rattle.spelling.specs.paper.Answer.{Says, image_of, Clear, Ends, malformed, clashes, turned, short, whole, Writes}
-use Rattle.image.specs.declared.Writing.TheVariants.{Written, Refused}
-use Rattle.image.specs.paper.Writing.{Ending, bytes, number, answer_of, room_of}
+use Rattle.image.specs.paper.Writing.{Written, Refused, Ending, bytes, number, answer_of, room_of}
 use Rattle.spelling.proofs.Numbering.{Clash, clashing_clash, marked_below}
 use Rattle.spelling.specs.Fair.{Told, Few, MarkedHead}
 use Rattle.spelling.proofs.Only.{Outcome, back, limit, head, loop, book_told, text_only}

@@ -161,6 +161,10 @@ module _ (image work : List ℕ) (clause at way : ℕ) (due : ClauseDue image wo
         room = omega (arith, k.ways, k.room);
       }
 
+  -- the same by the record's length, as the code counts
+  pub clause_counted : (n : ℕ) → n ≡ field_at image at → ClauseThere (n / 2 - 1)
+  clause_counted n e = clause_record_lem (n / 2 - 1) (ap (λ (k : ℕ). k / 2 - 1) e)
+
   pub clause_laid : (n x h link : ℕ) (after : List ℕ) → n ≡ field_at image at / 2 - 1 → Listed image (λ j. 0) x (lits_at image (at + 4) n) → h ≡ field_at image (at + 2)
       → OppositesLaid image (set (set work (clause_way clause) x) (clause_way clause + 1) h) way (at + 4) n no_link after link
       → ClauseLaid image work clause (set after (clause_record clause) link) (at + 4 + 2 * n) (way + way_width * n)
@@ -232,16 +236,6 @@ table_same image b work after i t p q r f = record {
 }
 
 module _ (image work : List ℕ) (start count : ℕ) (due : ClausesDue image work start count) where
-  pub clauses_start : ClausesLaid image work work 0 start (clause_way count)
-  clauses_start = record {
-    place = due.place;
-    way_is = omega (arith, due.counted, sum_none body_count (book_in image).clauses);
-    most = omega arith;
-    size = refl;
-    tables = λ i h. absurd (omega arith);
-    stays = λ j p q. refl;
-  }
-
   pub clauses_due : (after : List ℕ) (c at way : ℕ) → c < count → ClausesLaid image work after c at way → ClauseDue image after c at way
   clauses_due after c at way h l = record {
     book = due.book;

@@ -21,8 +21,8 @@ fn lay_atoms(image: &[u8], work: &mut [u32])
     let atoms = front::atoms(image) as usize;
     let abducibles = front::abducibles(image) as usize;
     area::wipe(work, LITERALS);
-    area::ways::lay_literals(work, 0, abducibles, JOINS_SET as u32);
-    area::ways::lay_literals(work, abducibles, atoms, FAILS as u32);
+    area::ways::lay_literals(work, 0, abducibles, JOINS_SET);
+    area::ways::lay_literals(work, abducibles, atoms, FAILS);
 }
 
 // The tables of clauses and constraints.

@@ -6,7 +6,7 @@ use area::{CLAUSE_RECORDS, NO_LINK, NO_TASK, RECORD_WIDTH, WAY_WIDTH, WAYS, link
 use image::fields::field_at;
 
 // Where the image's records and the ways go on.
-#[derive(Drop)]
+#[derive(Clone, Copy, Debug, PartialEq, Eq)]
 pub struct Further {
     pub at: usize,
     pub way: usize,
@@ -23,7 +23,7 @@ fn lay_clause(image: &[u8], work: &mut [u32], c: usize, place: Further) -> Furth
     let way = WAYS + WAY_WIDTH * c;
     work[way] = ways::list_of(image, at + 4, n);
     work[way + 1] = field_at(image, at + 2);
-    let link = ways::lay_opposites(image, work, first, at + 4, n, NO_LINK as u32);
+    let link = ways::lay_opposites(image, work, first, at + 4, n, NO_LINK);
     work[CLAUSE_RECORDS + RECORD_WIDTH * c] = link;
     Further {
         at: at + 4 + 2 * n,
@@ -39,10 +39,8 @@ pub fn lay_clauses(image: &[u8], work: &mut [u32], start: usize, count: usize) -
         at: start,
         way: WAYS + WAY_WIDTH * count,
     };
-    let mut c = 0;
-    while c < count {
+    for c in 0..count {
         place = lay_clause(image, work, c, place);
-        c += 1;
     }
     place
 }
@@ -70,10 +68,8 @@ pub fn lay_constraints(image: &[u8], work: &mut [u32], start: Further, many: usi
     ensures { ConstraintsLaid image.now work.old start.way work.new }
 {
     let mut place = start;
-    let mut k = 0;
-    while k < many {
+    for k in 0..many {
         place = lay_constraint(image, work, k, place);
-        k += 1;
     }
-    links::lay_record(work, many, NO_TASK as u32);
+    links::lay_record(work, many, NO_TASK);
 }

@@ -1,14 +1,14 @@
 -- What is made of a text before anything is written into the room: a refusal's number, or the image and the names of an accepted document.
 -- Assumes nothing.
-use Rattle.std.specs.Prelude.{ℕ, suc, ◌≤◌, ◌<◌, ◌≡◌, refl, Bool, true, false, List, [], length, take, leb}
+use Rattle.std.specs.Prelude.{ℕ, ◌≤◌, ◌<◌, ◌≡◌, refl, Bool, true, false, Some, None, Result, MatchResult, List, [], length, take, leb}
 use Rattle.std.proofs.Common.{arith, sym, ap, ap₂, ◌∙◌, subst, leb-true, leb-false}
 use Rattle.base.specs.paper.Bools.{choose}
 use Rattle.base.specs.paper.Lists.{flat}
 use Rattle.image.specs.paper.Decode.{Decoded, accepted, refused, decode}
-use Rattle.image.specs.paper.Writing.{bytes, number, answer_of, room_of}
-use Rattle.image.specs.declared.Writing.{Writing}
-use Rattle.book.specs.declared.Reading.TheVariants.{Accepted, Refused}
-use Rattle.book.specs.paper.Reading.{reading_of, Reads}
+use Rattle.image.specs.paper.Writing.{Writing, bytes, number, answer_of, room_of}
+use Rattle.image.specs.paper.Refusals.{number_of}
+use Rattle.image.specs.declared.refusals.Refusal.{Refusal}
+use Rattle.book.specs.paper.Reading.{Accepted, Refused, reading_of, Reads}
 use Rattle.spelling.specs.paper.Document.{Document, of_statement}
 use Rattle.spelling.specs.paper.Said.{mentions, book_of}
 use Rattle.spelling.specs.paper.Answer.{longest_text, Says, image_of, Clear, Ends, malformed, clashes as clashed, turned, short, whole, Writes}
@@ -19,40 +19,33 @@ use Rattle.spelling.proofs.Mentioned.{scan, scan_words}
 use Rattle.spelling.proofs.Only.{Outcome, back, limit, head, loop, text_only}
 use Rattle.spelling.specs.Table.{table_of, clashes, Entries}
 use Rattle.spelling.proofs.TableLaws.{clashes_clashing}
+use Rattle.naming.specs.declared.Table.{Table}
 use Rattle.grammar.specs.Places.{place_of}
 use Rattle.writer.specs.Writable.{image_room}
 use Rattle.text.specs.Delivered.{delivery}
+
+-- the lengths of what is lent
+abbrev pub Lent : List ℕ → List ℕ → Type 0
+Lent entries image = (image_room ≤ length image) × (length entries ≡ longest_text)
 
 -- an accepted document: its image at the front, and the table of its names
 pub record Found (text entries image : List ℕ) (size names : ℕ) : Type 0 where
   pub d : Document
   pub clear : Clear text d
   pub good : decode (image_of d) ≡ accepted (book_of d)
+  pub within : size ≤ image_room
   pub front : take size image ≡ image_of d
   pub table : Entries text entries (table_of (mentions d))
+  pub few : names ≤ longest_text
   pub many : names ≡ length (table_of (mentions d))
 
--- refusal 0 tells that there is none
-pub record Made (text entries image : List ℕ) (refusal size names : ℕ) : Type 0 where
-  pub room : image_room ≤ length image
-  pub long : length entries ≡ longest_text
-  pub within : size ≤ image_room
-  pub few : names ≤ longest_text
-  pub refused : (refusal ≡ 0 → ⊥) → (what : Document → List ℕ) (room : ℕ) → Ends what text room (number refusal)
-  pub found : refusal ≡ 0 → Found text entries image size names
+-- however the text ends
+abbrev pub Refuses : List ℕ → ℕ → Type 0
+Refuses text n = (what : Document → List ℕ) (room : ℕ) → Ends what text room (number n)
 
--- the lengths of what is lent
-abbrev pub Lent : List ℕ → List ℕ → Type 0
-Lent entries image = (image_room ≤ length image) × (length entries ≡ longest_text)
-
-pub made_refused : (text : List ℕ) {entries image : List ℕ} (n : ℕ) → Lent entries image → (n ≡ 0 → ⊥) → ((what : Document → List ℕ) (room : ℕ) → Ends what text room (number n))
-    → Made text entries image n 0 0
-made_refused text n l h e = record { room = l.0; long = l.1; within = omega arith; few = omega arith; refused = λ _. e; found = λ z. absurd (h z) }
-
-pub made_told : {text entries image : List ℕ} {n refusal size names : ℕ} → (refusal ≡ n) × (size ≡ 0) × (names ≡ 0) → Made text entries image n 0 0 → Made text entries image refusal size names
-made_told {text} {entries} {image} {n} {refusal} {size} (e, f, g) m =
-    subst (λ (k : ℕ). Made text entries image refusal size k) (sym g)
-    (subst (λ (k : ℕ). Made text entries image refusal k 0) (sym f) (subst (λ (k : ℕ). Made text entries image k 0 0) (sym e) m))
+pub record Made (text : List ℕ) (table : Table) (image : List ℕ) (r : Result ℕ Refusal) : Type 0 where
+  pub lent : Lent table.entries image
+  pub answer : MatchResult r (λ size. Found text table.entries image size table.names) (λ refusal. Refuses text (number_of refusal))
 
 -- ---- 50
 
@@ -60,18 +53,18 @@ module _ (what : Document → List ℕ) (text : List ℕ) (room : ℕ) where
   pub too_long : longest_text < length text → Ends what text room (number 50)
   too_long h = malformed (λ d s. let k : length text ≤ longest_text = s.0 in absurd (omega arith))
 
-  pub not_placed : place_of (parse text) ≡ 0 → Ends what text room (number 50)
-  not_placed e = malformed (λ d s. let z : place_of (reads d) ≡ 0 = ap place_of (sym ((parse_spelt text d).1 s.1)) ∙ e in absurd (omega (arith, z)))
+  pub not_placed : place_of (parse text) ≡ None → Ends what text room (number 50)
+  not_placed e = malformed (λ d s. let z : place_of (reads d) ≡ None = ap place_of (sym ((parse_spelt text d).1 s.1)) ∙ e in cc)
 
 -- the document that was found, and the place of its goal line
-pub placed : (text : List ℕ) → length text ≤ longest_text → (place_of (parse text) ≡ 0 → ⊥)
-    → (d : Document) × Says text d × (place_of (parse text) ≡ suc (length (flat of_statement d.statements))) × (scan false (words text) ≡ mentions d)
-placed text brief h = go (parse text) refl
+pub placed : (text : List ℕ) (goal : ℕ) → length text ≤ longest_text → Some goal ≡ place_of (parse text)
+    → (d : Document) × Says text d × (goal ≡ length (flat of_statement d.statements)) × (scan false (words text) ≡ mentions d)
+placed text goal brief h = go (parse text) refl h
   where
-    go : (p : Parsed) → parse text ≡ p
-        → (d : Document) × Says text d × (place_of (parse text) ≡ suc (length (flat of_statement d.statements))) × (scan false (words text) ≡ mentions d)
-    go unreadable e = absurd (h (ap place_of e))
-    go (reads d) e = (d, (brief, (parse_spelt text d).0 e), ap place_of e, scan_words text d e)
+    go : (p : Parsed) → parse text ≡ p → Some goal ≡ place_of p
+        → (d : Document) × Says text d × (goal ≡ length (flat of_statement d.statements)) × (scan false (words text) ≡ mentions d)
+    go unreadable e q = cc
+    go (reads d) e q = (d, (brief, (parse_spelt text d).0 e), cc, scan_words text d e)
 
 -- ---- 51
 
@@ -94,15 +87,6 @@ module _ (text : List ℕ) (d : Document) (c : Clear text d) where
           let number : m ≡ n = cc in
           let place : p ≡ at = cc in
           turned d n at c (e ∙ ap₂ refused number place)
-
-  pub refused_some : (n at : ℕ) → Reads (image_of d) (Refused n at) → n ≡ 0 → ⊥
-  refused_some n at r = go (decode (image_of d)) r.answer (text_only text d c.says)
-    where
-      go : (x : Decoded) → Refused n at ≡ reading_of x → Outcome (book_of d) x → n ≡ 0 → ⊥
-      go x q back z = let y : ◌≡◌ {A = ℕ} 0 1 = cc in absurd (omega arith)
-      go x q (limit h) z = let y : n ≡ 5 = cc in absurd (omega arith)
-      go x q (head h) z = let y : n ≡ 7 = cc in absurd (omega arith)
-      go x q (loop h) z = let y : n ≡ 9 = cc in absurd (omega arith)
 
   pub accepted_good : Reads (image_of d) Accepted → decode (image_of d) ≡ accepted (book_of d)
   accepted_good r = go (decode (image_of d)) r.answer (text_only text d c.says)

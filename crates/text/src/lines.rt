@@ -1,5 +1,5 @@
 // The names of the table, one line each: first those of the abducibles, then the others.
-ghost use Rattle.std.specs.Prelude.{◌≡◌, [], ◌∷◌, ◌++◌, ◌+◌, ◌/◌, ◌≤◌, length};
+ghost use Rattle.std.specs.Prelude.{◌≡◌, [], ◌∷◌, ◌++◌, ◌+◌, ◌≤◌, length};
 ghost use Rattle.spelling.specs.Table.{name_at};
 ghost use Rattle.text.specs.Lines.{line_at, lines_by, Lined};
 
@@ -17,16 +17,13 @@ fn write_name(text: &[u8], from: usize, room: &mut [u8], at: usize) -> usize
     requires { at + length (name_at text.now from) ≤ length room.old }
     ensures { Lined (name_at text.now from) room.old at room.new result }
 {
-    let mut i = from;
     let mut end = at;
-    while i < text.len() {
-        let b = text[i];
-        if !in_name(b) {
+    for i in from..text.len() {
+        if !in_name(text[i]) {
             return end;
         }
-        room[end] = b;
+        room[end] = text[i];
         end += 1;
-        i += 1;
     }
     end
 }
@@ -41,13 +38,6 @@ fn write_line(text: &[u8], from: usize, room: &mut [u8], at: usize) -> usize
     end + 1
 }
 
-// Where an entry's name stands in the text.
-fn place_of(entry: u16) -> usize
-    ensures { result ≡ entry / 2 }
-{
-    entry as usize / 2
-}
-
 // The line of an entry, if it has this mark; the place behind.
 fn write_entry(text: &[u8], entry: u16, mark: u16, room: &mut [u8], at: usize) -> usize
     requires { at + length (lines_by text.now mark (entry ∷ [])) ≤ length room.old }
@@ -56,7 +46,7 @@ fn write_entry(text: &[u8], entry: u16, mark: u16, room: &mut [u8], at: usize) -
     if entry % 2 != mark {
         return at;
     }
-    write_line(text, place_of(entry), room, at)
+    write_line(text, usize::from(entry) / 2, room, at)
 }
 
 // The lines of the entries with this mark; the place behind.
@@ -65,10 +55,8 @@ fn write_kind(text: &[u8], entries: &[u16], mark: u16, room: &mut [u8], at: usiz
     ensures { Lined (lines_by text.now mark entries.now) room.old at room.new result }
 {
     let mut end = at;
-    let mut i = 0;
-    while i < entries.len() {
-        end = write_entry(text, entries[i], mark, room, end);
-        i += 1;
+    for entry in entries {
+        end = write_entry(text, *entry, mark, room, end);
     }
     end
 }

@@ -16,14 +16,12 @@ pub fn give_numbers(
     ensures { Numbered entries.now marked numbers.new count }
 {
     let mut before = 0;
-    let mut i = 0;
-    while i < count {
+    for i in 0..count {
         if entries[i] % 2 == 1 {
             numbers[i] = before as u16;
             before += 1;
         } else {
             numbers[i] = (marked + (i - before)) as u16;
         }
-        i += 1;
     }
 }

@@ -1,11 +1,11 @@
 -- A record is picked, or a success is kept.
 -- Assumes nothing.
-use Rattle.std.specs.Prelude.{ℕ, ◌+◌, ◌≤◌, ◌<◌, ◌≡◌, refl, List, [], ◌∷◌, ◌++◌, length, get_or, take}
+use Rattle.std.specs.Prelude.{ℕ, ◌+◌, ◌≤◌, ◌<◌, ◌≡◌, refl, List, [], ◌∷◌, ◌++◌, length, get_or, take, Some, None}
 use Rattle.std.proofs.Common.{arith, le_refl, sym, ap, ap₂, subst, ◌∙◌}
 use Rattle.base.specs.paper.Lists.{Every}
 use Rattle.base.specs.Parts.{length_lay, take_lay}
 use Rattle.sets.specs.paper.Kept.{insert}
-use Rattle.kept.specs.Agreed.{Overlaid}
+use Rattle.kept.specs.Agreed.{Inserted}
 use Rattle.image.specs.paper.Book.{Lit, Book}
 use Rattle.image.proofs.Accepted.{orderly}
 use Rattle.searching.specs.paper.Rules.{Task, pick, Node, assumed, children}
@@ -13,12 +13,12 @@ use Rattle.area.specs.Ground.{Chain}
 use Rattle.area.specs.Area as layout
 use Rattle.memory.specs.declared.run.Agenda.{Agenda}
 use Rattle.memory.specs.declared.run.Run.{Run}
-use Rattle.memory.specs.States.{TASK, WAY, FAILED, FULL}
+use Rattle.memory.specs.States.{rank, TASK, WAY, FAILED, FULL}
 use Rattle.memory.specs.Machine.{node_of, Free, older, short, empty, Fine, by_ways, literal, record_at, last, failed, way, Holds, HandIn, HandOf, in_hand, with_hand}
 use Rattle.memory.specs.Tasks.{children_picks, fine_children, held_pick}
 use Rattle.memory.specs.Pieces.{in_state, giving, keeping}
 use Rattle.memory.specs.Chains.{chain_none, chain_empty, chain_apart}
-use Rattle.memory.specs.Agreed.{Visited, Tasked, SuccessKept, inserted, full, Picked, picks, succeeds}
+use Rattle.memory.specs.Agreed.{Visited, Tasked, SuccessKept, full, inserted, Picked, picks, succeeds}
 
 free_any : (image : List ℕ) (b : Book) (tab : ℕ → ℕ) {work : List ℕ} {m most : ℕ} {a : Agenda} (used : ℕ) {ts : List Task} {lss : List (List Lit)} → m ≤ most
     → Free image b tab work m most a ts lss → Free image b tab work m used a ts lss
@@ -122,7 +122,7 @@ module _ (work : List ℕ) (run : Run) (pre : Tasked work run) (rec : layout.lit
   pick_place = record_place_lem pre.holds pre.state rec
 
   module _ (sets : List ℕ) (number : ℕ) (is : number ≡ get_or work run.task 0) where
-    visited : (o q : Run) → q ≡ o → (number ≡ layout.no_task → ⊥) → o.state ≤ FAILED → o.nodes ≡ run.nodes → o.count ≡ run.count
+    visited : (o q : Run) → q ≡ o → (number ≡ layout.no_task → ⊥) → rank o.state ≤ rank FAILED → o.nodes ≡ run.nodes → o.count ≡ run.count
         → ((image : List ℕ) (b : Book) (x : Node) (rest : List Node) → Holds image b work run (x ∷ rest) → Holds image b work o (children b x ++ rest)) → Picked sets work run sets q
     visited o q i n st k c f =
         picks
@@ -151,15 +151,13 @@ module _ (work : List ℕ) (run : Run) (pre : Tasked work run) (rec : layout.lit
 
 -- ---- a success kept
 
-pub kept_full : (sets : List ℕ) (run : Run) (n : ℕ) (after : List ℕ) (q : Run) → Overlaid (insert (take run.count sets) run.set) sets n after → length after < n → q ≡ in_state run FULL → SuccessKept sets run after q
-kept_full sets run n after q l h e =
-    let kept : List ℕ = insert (take run.count sets) run.set in
-    let size : length after ≡ length sets = ap length l.list ∙ length_lay kept sets in
-    full (omega (arith, l.count)) size e
+pub kept_full : (sets : List ℕ) (run : Run) (after : List ℕ) (q : Run) → Inserted (insert (take run.count sets) run.set) sets None after → q ≡ in_state run FULL → SuccessKept sets run after q
+kept_full sets run after q l e =
+    full l.count (ap length l.list ∙ length_lay (insert (take run.count sets) run.set) sets) e
 
-pub kept_inserted : (sets : List ℕ) (run : Run) (n : ℕ) (after : List ℕ) (q : Run) → Overlaid (insert (take run.count sets) run.set) sets n after → n ≤ length after → q ≡ keeping run n → SuccessKept sets run after q
-kept_inserted sets run n after q l h e =
+pub kept_inserted : (sets : List ℕ) (run : Run) (n : ℕ) (after : List ℕ) (q : Run) → Inserted (insert (take run.count sets) run.set) sets (Some n) after → q ≡ keeping run n → SuccessKept sets run after q
+kept_inserted sets run n after q l e =
     let kept : List ℕ = insert (take run.count sets) run.set in
     let size : length after ≡ length sets = ap length l.list ∙ length_lay kept sets in
     let fits : length kept ≤ length sets = omega (arith, l.count) in
-    inserted n l.count (omega arith) (ap₂ take l.count l.list ∙ take_lay kept sets fits) size e
+    inserted n l.count.0 l.count.1 (ap₂ take l.count.0 l.list ∙ take_lay kept sets fits) size e

@@ -8,14 +8,14 @@ use Rattle.searching.specs.paper.Rules.{Node, children}
 use Rattle.area.specs.Area as layout
 use Rattle.memory.specs.Places.{record_agenda, bits64}
 use Rattle.memory.specs.declared.run.Run.{Run}
-use Rattle.memory.specs.States.{AGENDA, WAY, FAILED}
+use Rattle.memory.specs.States.{rank, AGENDA, WAY, FAILED}
 use Rattle.memory.specs.Machine.{Holds}
 use Rattle.memory.specs.Pieces.{in_state, giving, placing, Layable, LaidDown, marked_with, raised, adding, Markable, Marked}
 use Rattle.visit.specs.Visit
 use Rattle.memory.specs.Agreed.{Visited, Tasked, FreeLiteral}
 
 module _ (work : List ℕ) (run : Run) (pre : Tasked work run) (lit : run.task < layout.literal_numbers) where
-  visited : (v : List ℕ) (o q : Run) → q ≡ o → o.state ≤ FAILED → o.nodes ≡ run.nodes → o.count ≡ run.count → drop layout.end v ≡ drop layout.end work
+  visited : (v : List ℕ) (o q : Run) → q ≡ o → rank o.state ≤ rank FAILED → o.nodes ≡ run.nodes → o.count ≡ run.count → drop layout.end v ≡ drop layout.end work
       → ((image : List ℕ) (b : Book) (x : Node) (rest : List Node) → Holds image b work run (x ∷ rest) → Holds image b v o (children b x ++ rest)) → Visited work run v q
   visited v o q e st n c l f =
       subst (λ (p : Run). Visited work run v p) (sym e)

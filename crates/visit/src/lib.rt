@@ -14,9 +14,7 @@ use area::{
     NO_TASK, TRAIL_WIDTH,
 };
 use memory::agenda::lay;
-use memory::run::{
-    AGENDA, Agenda, FAILED, FULL, Run, SPENT, WAY, agenda_of, counted, given, in_state, word,
-};
+use memory::run::{Agenda, Run, State};
 
 // Marks the atom of literal y.
 fn mark(work: &mut [u32], r: Run, y: usize) -> Run
@@ -24,12 +22,12 @@ fn mark(work: &mut [u32], r: Run, y: usize) -> Run
     ensures { Marked work.old r y work.new result }
 {
     let m = r.marked;
-    let p = y / 2;
-    work[p] = (y + 1) as u32;
+    work[y / 2] = (y + 1) as u32;
     work[m + CELL_WIDTH] = y as u32;
-    let mut q = r;
-    q.marked = m + TRAIL_WIDTH;
-    q
+    Run {
+        marked: m + TRAIL_WIDTH,
+        ..r
+    }
 }
 
 // Abducible p joins the set.
@@ -37,35 +35,47 @@ fn with_member(r: Run, p: usize) -> Run
     requires { (p < limits.abducibles) × (r.set + 2 ^ p < bits64) }
     ensures { result ≡ adding r p }
 {
-    let mut q = r;
-    q.set = r.set + (1u64 << p);
-    q
+    Run {
+        set: r.set + (1u64 << p),
+        ..r
+    }
 }
 
 // A literal whose atom is unmarked, and whose number is a, is marked.
-fn put_on_sheet(work: &mut [u32], r: Run, y: usize, a: usize) -> Run
+fn put_on_sheet(work: &mut [u32], r: Run, y: usize, a: u32) -> Run
     requires { FreeLiteral work.old r y a }
     ensures { Visited work.old r work.new result }
 {
     let q = mark(work, r, y);
     if a == JOINS_SET {
-        return in_state(with_member(q, y / 2), AGENDA);
+        return Run {
+            state: State::Agenda,
+            ..with_member(q, y / 2)
+        };
     }
     if a == JOINS {
-        return in_state(q, AGENDA);
+        return Run {
+            state: State::Agenda,
+            ..q
+        };
     }
     if y % 2 == 1 {
         let link = lay(work, q);
-        return agenda_of(
-            q,
-            Agenda {
-                at: a,
+        return Run {
+            state: State::Agenda,
+            agenda: Agenda {
+                at: a as usize,
                 end: NO_END,
-                link: link,
+                link,
             },
-        );
+            ..q
+        };
     }
-    given(q, WAY, a)
+    Run {
+        state: State::Way,
+        task: a as usize,
+        ..q
+    }
 }
 
 // A literal is wanted.
@@ -74,16 +84,25 @@ fn want(work: &mut [u32], r: Run) -> Run
     ensures { Visited work.old r work.new result }
 {
     let y = r.task;
-    let seen = word(work, y / 2);
+    let seen = work[y / 2];
     if seen != NO_MARK {
-        if seen == y + 1 {
-            return in_state(r, AGENDA);
+        if seen as usize == y + 1 {
+            return Run {
+                state: State::Agenda,
+                ..r
+            };
         }
-        return in_state(r, FAILED);
+        return Run {
+            state: State::Failed,
+            ..r
+        };
     }
-    let a = word(work, LITERALS + y);
+    let a = work[LITERALS + y];
     if a == FAILS {
-        return in_state(r, FAILED);
+        return Run {
+            state: State::Failed,
+            ..r
+        };
     }
     put_on_sheet(work, r, y, a)
 }
@@ -94,14 +113,17 @@ fn keep_success(sets: &mut [u64], r: Run) -> Run
     ensures { SuccessKept sets.old r sets.new result }
 {
     let held = r.count;
-    let count = kept::insert(sets, held, r.set);
-    if sets.len() < count {
-        return in_state(r, FULL);
+    let Some(count) = kept::insert(sets, held, r.set) else {
+        return Run {
+            state: State::Full,
+            ..r
+        };
+    };
+    Run {
+        state: State::Failed,
+        count,
+        ..r
     }
-    let mut q = r;
-    q.state = FAILED;
-    q.count = count;
-    q
 }
 
 // A record is picked: it has a chain of ways.
@@ -109,15 +131,18 @@ fn pick(sets: &mut [u64], work: &[u32], r: Run) -> Run
     requires { Tasked work.now r × (layout.literal_numbers ≤ r.task) × (r.count ≤ length sets.old) × (length sets.old ≤ longest) }
     ensures { Picked sets.old work.now r sets.new result }
 {
-    let e = r.task;
-    let a = word(work, e);
-    if a == NO_LINK {
-        return in_state(r, FAILED);
+    match work[r.task] {
+        NO_LINK => Run {
+            state: State::Failed,
+            ..r
+        },
+        NO_TASK => keep_success(sets, r),
+        way => Run {
+            state: State::Way,
+            task: way as usize,
+            ..r
+        },
     }
-    if a == NO_TASK {
-        return keep_success(sets, r);
-    }
-    given(r, WAY, a)
 }
 
 // A node: the task in hand is visited.
@@ -126,10 +151,16 @@ pub fn visit(budget: usize, sets: &mut [u64], work: &mut [u32], r: Run) -> Run
     ensures { Went budget sets.old work.old r sets.new work.new result }
 {
     if r.nodes == budget {
-        return in_state(r, SPENT);
+        return Run {
+            state: State::Spent,
+            ..r
+        };
     }
-    let q = counted(r);
-    if r.task < LITERAL_NUMBERS {
+    let q = Run {
+        nodes: r.nodes + 1,
+        ..r
+    };
+    if q.task < LITERAL_NUMBERS {
         return want(work, q);
     }
     pick(sets, work, q)

@@ -1,4 +1,6 @@
 -- What the walk's functions answer, beside what the definitions of crate image say.
-pub mod Pouring
+pub mod Each
+pub mod Passing
+pub mod Seeing
 pub mod Seen
 pub mod SeenBook

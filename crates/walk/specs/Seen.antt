@@ -16,18 +16,18 @@ use Rattle.image.specs.paper.Decode.{lit_of, literal, clause, alternative, alter
 use Rattle.image.specs.Spell.{of_lits}
 use Rattle.image.specs.Finds.{finds_clause, finds_literals, alternative_finds, finds_constraint}
 use Rattle.faults.specs.Taking.{seen, poured}
-use Rattle.walk.specs.Pouring.{seen_found, seen_fault}
+use Rattle.walk.specs.Seeing.{seen_found, seen_fault}
 use Rattle.base.specs.Flat.{sum_ones}
 
--- the number of members, as a sum of ones
-module _ (s : List ℕ) (atoms at : ℕ) where
-  pub literal_seen : seen (λ _. 1) (literal s atoms at) ≡ seen (λ _. 1) (field s (wrong_lit atoms) at)
+-- a literal is seen as the field that it is, by whatever number
+module _ (s : List ℕ) (atoms at n : ℕ) where
+  pub literal_seen : seen (λ _. n) (literal s atoms at) ≡ seen (λ _. n) (field s (wrong_lit atoms) at)
   unfolding literal
   literal_seen = go (field s (wrong_lit atoms) at)
     where
-      go : (st : Step ℕ) → seen (λ _. 1) (after st (λ x. give (lit_of x))) ≡ seen (λ _. 1) st
+      go : (st : Step ℕ) → seen (λ _. n) (after st (λ x. give (lit_of x))) ≡ seen (λ _. n) st
       go (found x next) = refl
-      go (fault n p) = refl
+      go (fault m p) = refl
 
 -- literals seen as their number, whatever they go into
 counted : {B : Type 0} (weight : B → ℕ) (make : List Lit → B) → ((ls : List Lit) → weight (make ls) ≡ length ls)
@@ -64,12 +64,6 @@ pub clause_total : (s : List ℕ) (most : Limits) (atoms abducibles total at y n
 clause_total s most atoms abducibles total at y next e =
     let f = seen_found body_count (clause s most atoms abducibles total at) y next e in
     subst (λ (k : ℕ). total + k ≤ most.bodies) f.2 ((finds_clause s most atoms abducibles total).finds at f.0 next f.1).is_fine.fits
-
-pub constraint_total : (s : List ℕ) (most : Limits) (atoms total at y next : ℕ)
-    → seen (λ k. total + literal_count k) (constraint s most atoms total at) ≡ found y next → y ≤ most.literals
-constraint_total s most atoms total at y next e =
-    let f = seen_found (λ k. total + literal_count k) (constraint s most atoms total at) y next e in
-    subst (λ (n : ℕ). n ≤ most.literals) f.2 ((finds_constraint s most atoms total).finds at f.0 next f.1).is_fine.fits
 
 -- ---- an alternative, and all of a record
 
@@ -233,3 +227,9 @@ module _ (s : List ℕ) (most : Limits) (atoms total at : ℕ) where
       → constraint s most atoms total at ≡ inside s most atoms (next + size) (size / 2) total next
   unfolding constraint
   constraint_inside e = rw e
+
+pub constraint_total : (s : List ℕ) (most : Limits) (atoms total at y next : ℕ)
+    → seen (λ k. total + literal_count k) (constraint s most atoms total at) ≡ found y next → y ≤ most.literals
+constraint_total s most atoms total at y next e =
+    let f = seen_found (λ k. total + literal_count k) (constraint s most atoms total at) y next e in
+    subst (λ (n : ℕ). n ≤ most.literals) f.2 ((finds_constraint s most atoms total).finds at f.0 next f.1).is_fine.fits

@@ -9,7 +9,7 @@ use Rattle.image.specs.paper.Walk.{Step, found, fault, Walk, after, give, field,
 use Rattle.image.specs.paper.Faults.{limits, wrong_atoms, wrong_abducibles, wrong_count}
 use Rattle.image.specs.paper.Decode.{literal, clause, constraint, counted, clauses_and_constraints, book, ends, whole}
 use Rattle.faults.specs.Taking.{seen}
-use Rattle.walk.specs.Pouring.{seen_found, seen_fault}
+use Rattle.walk.specs.Seeing.{seen_found, seen_fault}
 
 module _ {A : Type 0} (s : List ℕ) (most : ℕ) (w : ℕ → Walk A) (at : ℕ) where
   pub counted_no_count : {n p : ℕ} → field s (wrong_count most) at ≡ fault n p → counted s most w at ≡ fault n p

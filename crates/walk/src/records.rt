@@ -1,147 +1,171 @@
-// The records of the image, by the walk of image/specs/paper/Decode. What is found is not kept: the answer's number is how many literals
-// there were, which the running totals need, with the next place.
+// The records of the image, and what stands one behind another behind A and B, by the walk of image/specs/paper/Decode. What is found is
+// not kept: the answer is how many literals there were, or the new total of them, with the next place, or that place alone.
 
 ghost use Rattle.std.specs.Prelude.{◌≡◌, ℕ, ◌+◌, ◌*◌, ◌≤◌, length};
+ghost use Rattle.base.specs.paper.Lists.{sum};
 ghost use Rattle.image.specs.paper.Book.{body_count, literal_count};
+ghost use Rattle.image.specs.paper.Walk.{Walk, running, times};
 ghost use Rattle.image.specs.paper.Faults.{limits};
-ghost use Rattle.image.specs.paper.Decode.{literal, clause, alternative, inside, constraint};
-ghost use Rattle.faults.specs.Taking.{taken, seen, poured};
+ghost use Rattle.image.specs.paper.Decode.{literal, clause, alternative, inside, constraint, counted, clauses_and_constraints};
+ghost use Rattle.faults.specs.Taking.{taken, passed, seen, poured};
+ghost use Rattle.walk.specs.Each.{Steps, each};
 ghost use Rattle.walk.specs.Seen.{ways_seen};
 
 use faults::fields;
-use faults::fields::Taken;
+use faults::totals::{Bodies, Literals};
+use image::limits::{MOST_CLAUSES, MOST_CONSTRAINTS, MOST_GOAL};
+use image::refusals::Fault;
 
-// `count` literals.
-pub fn take_literals(image: &[u8], start: usize, count: u32, atoms: u32) -> Taken
-    ensures { taken result ≡ poured (λ _. literal image.now atoms) (λ _. 1) count 0 start }
-{
-    let mut at = start;
-    let mut i: u32 = 0;
-    while i < count {
-        match fields::take_literal(image, at, atoms) {
-            Taken::Fault(n, place) => {
-                return Taken::Fault(n, place);
-            }
-            Taken::Found(_, next) => {
-                at = next;
-            }
-        }
-        i += 1;
-    }
-    Taken::Found(count, at)
+// An image that is read as a book of so many atoms, of which so many are abducibles.
+#[derive(Clone, Copy, Debug)]
+pub struct Records<'a> {
+    pub image: &'a [u8],
+    pub atoms: u32,
+    pub abducibles: u32,
 }
 
-pub fn take_clause(image: &[u8], at: usize, atoms: u32, abducibles: u32, sum: u32) -> Taken
-    requires { sum ≤ limits.bodies }
-    ensures { taken result ≡ seen body_count (clause image.now limits atoms abducibles sum at) }
-{
-    match fields::take_clause_size(image, at, sum) {
-        Taken::Fault(n, place) => Taken::Fault(n, place),
-        Taken::Found(size, head) => match fields::take_head(image, head, atoms, abducibles) {
-            Taken::Fault(n, place) => Taken::Fault(n, place),
-            Taken::Found(_, body) => take_literals(image, body, size / 2 - 1, atoms),
-        },
-    }
-}
-
-// `count` clauses.
-pub fn take_clauses(image: &[u8], start: usize, count: u32, atoms: u32, abducibles: u32) -> Taken
-    ensures { taken result ≡ poured (clause image.now limits atoms abducibles) body_count count 0 start }
-{
-    let mut at = start;
-    let mut sum: u32 = 0;
-    let mut i: u32 = 0;
-    while i < count {
-        match take_clause(image, at, atoms, abducibles, sum) {
-            Taken::Fault(n, inside) => {
-                return Taken::Fault(n, inside);
-            }
-            Taken::Found(body, next) => {
-                sum += body;
-                at = next;
-            }
-        }
-        i += 1;
-    }
-    Taken::Found(sum, at)
-}
-
-// One alternative of a record that ends at `end`.
-pub fn take_way(image: &[u8], at: usize, end: usize, atoms: u32, sum: u32) -> Taken
-    requires { sum ≤ limits.literals }
-    ensures { taken result ≡ seen length (alternative image.now limits atoms end sum at) }
-{
-    match fields::take_alternative(image, at, end, sum) {
-        Taken::Fault(n, place) => Taken::Fault(n, place),
-        Taken::Found(count, next) => take_literals(image, next, count, atoms),
-    }
-}
-
-// All alternatives up to `end`. The answer's number counts the `before` literals in front of them too. Any n that is at
-// least the number of fields up to `end` will do.
-pub fn take_ways(image: &[u8], start: usize, end: usize, atoms: u32, before: u32) -> Taken
-    requires { before ≤ limits.literals }
-    ensures { (n : ℕ) → end ≤ start + 2 * n → taken result ≡ ways_seen image.now limits atoms end n before start }
+// `count` records one behind another. Each is taken at its place, and told what those before it came to; it answers what they come to with it.
+fn take_each<T: Copy, F: Fn(usize, T) -> Result<(T, usize), Fault>>(
+    start: usize,
+    count: u32,
+    before: T,
+    take: F,
+) -> Result<(T, usize), Fault>
+    requires { F.IsAlwaysCallable take }
+    ensures { (step : T → Walk T) → Steps (F.post take) step → taken result ≡ each step count before start }
 {
     let mut at = start;
     let mut sum = before;
-    while at < end {
-        match take_way(image, at, end, atoms, sum) {
-            Taken::Fault(n, place) => {
-                return Taken::Fault(n, place);
-            }
-            Taken::Found(literals, next) => {
-                sum += literals;
-                at = next;
-            }
+    for _ in 0..count {
+        let (total, next) = take(at, sum)?;
+        sum = total;
+        at = next;
+    }
+    Ok((sum, at))
+}
+
+impl<'a> Records<'a> {
+    // `count` literals.
+    pub fn take_literals(&self, start: usize, count: u32) -> Result<(u32, usize), Fault>
+        ensures { taken result ≡ poured (λ _. literal self.now.image.now self.now.atoms) (λ _. 1) count 0 start }
+    {
+        let mut at = start;
+        for _ in 0..count {
+            let (_, next) = fields::take_literal(self.image, at, self.atoms)?;
+            at = next;
         }
+        Ok((count, at))
     }
-    Taken::Found(sum, at)
-}
 
-// The inside of a constraint's record that ends at `end`, likewise.
-pub fn take_inside(image: &[u8], at: usize, end: usize, atoms: u32, sum: u32) -> Taken
-    requires { sum ≤ limits.literals }
-    ensures { (n : ℕ) → end ≤ at + 2 * n → taken result ≡ seen (λ k. sum + literal_count k) (inside image.now limits atoms end n sum at) }
-{
-    match fields::take_conditions(image, at, end, sum) {
-        Taken::Fault(n, place) => Taken::Fault(n, place),
-        Taken::Found(count, next) => match take_literals(image, next, count, atoms) {
-            Taken::Fault(n, literal) => Taken::Fault(n, literal),
-            Taken::Found(_, ways) => take_ways(image, ways, end, atoms, sum + count),
-        },
+    // A clause. The answer is the new total, with the next place.
+    pub fn take_clause(&self, at: usize, sum: Bodies) -> Result<(Bodies, usize), Fault>
+        ensures { taken result ≡ seen (λ c. sum + body_count c) (clause self.now.image.now limits self.now.atoms self.now.abducibles sum at) }
+    {
+        let (size, head) = fields::take_clause_size(self.image, at, sum)?;
+        let (_, body) = fields::take_head(self.image, head, self.atoms, self.abducibles)?;
+        let (count, next) = self.take_literals(body, size / 2 - 1)?;
+        Ok((sum.with(count), next))
     }
-}
 
-// A constraint. The answer's number is the new total.
-pub fn take_constraint(image: &[u8], at: usize, atoms: u32, sum: u32) -> Taken
-    requires { sum ≤ limits.literals }
-    ensures { taken result ≡ seen (λ k. sum + literal_count k) (constraint image.now limits atoms sum at) }
-{
-    match fields::take_size(image, at) {
-        Taken::Fault(n, place) => Taken::Fault(n, place),
-        Taken::Found(size, next) => take_inside(image, next, next + size as usize, atoms, sum),
+    // `count` clauses.
+    pub fn take_clauses(&self, start: usize, count: u32) -> Result<(Bodies, usize), Fault>
+        ensures { taken result ≡ poured (clause self.now.image.now limits self.now.atoms self.now.abducibles) body_count count 0 start }
+    {
+        take_each(
+            start,
+            count,
+            Bodies::start(),
+            |at, sum| self.take_clause(at, sum),
+        )
     }
-}
 
-// `count` constraints.
-pub fn take_constraints(image: &[u8], start: usize, count: u32, atoms: u32) -> Taken
-    ensures { taken result ≡ poured (constraint image.now limits atoms) literal_count count 0 start }
-{
-    let mut at = start;
-    let mut sum: u32 = 0;
-    let mut i: u32 = 0;
-    while i < count {
-        match take_constraint(image, at, atoms, sum) {
-            Taken::Fault(n, place) => {
-                return Taken::Fault(n, place);
-            }
-            Taken::Found(total, next) => {
-                sum = total;
-                at = next;
-            }
+    // One alternative of a record that ends at `end`.
+    pub fn take_way(&self, at: usize, end: usize, sum: Literals) -> Result<(u32, usize), Fault>
+        ensures { taken result ≡ seen length (alternative self.now.image.now limits self.now.atoms end sum at) }
+    {
+        let (count, next) = fields::take_alternative(self.image, at, end, sum)?;
+        self.take_literals(next, count)
+    }
+
+    // All alternatives up to `end`, behind `before` literals. Any n that is at least the number of fields up to `end` will do.
+    pub fn take_ways(
+        &self,
+        start: usize,
+        end: usize,
+        before: Literals,
+    ) -> Result<(Literals, usize), Fault>
+        ensures { (n : ℕ) → end ≤ start + 2 * n → taken result ≡ ways_seen self.now.image.now limits self.now.atoms end n before start }
+    {
+        let mut at = start;
+        let mut sum = before;
+        while at < end {
+            let (literals, next) = self.take_way(at, end, sum)?;
+            sum = sum.with(literals);
+            at = next;
         }
-        i += 1;
+        Ok((sum, at))
     }
-    Taken::Found(sum, at)
+
+    // The inside of a constraint's record that ends at `end`, likewise.
+    pub fn take_inside(
+        &self,
+        at: usize,
+        end: usize,
+        sum: Literals,
+    ) -> Result<(Literals, usize), Fault>
+        ensures { (n : ℕ) → end ≤ at + 2 * n → taken result ≡ seen (λ k. sum + literal_count k) (inside self.now.image.now limits self.now.atoms end n sum at) }
+    {
+        let (count, next) = fields::take_conditions(self.image, at, end, sum)?;
+        let (_, ways) = self.take_literals(next, count)?;
+        self.take_ways(ways, end, sum.with(count))
+    }
+
+    // A constraint, likewise.
+    pub fn take_constraint(&self, at: usize, sum: Literals) -> Result<(Literals, usize), Fault>
+        ensures { taken result ≡ seen (λ k. sum + literal_count k) (constraint self.now.image.now limits self.now.atoms sum at) }
+    {
+        let (size, next) = fields::take_size(self.image, at)?;
+        self.take_inside(next, next + size as usize, sum)
+    }
+
+    // `count` constraints.
+    pub fn take_constraints(&self, start: usize, count: u32) -> Result<(Literals, usize), Fault>
+        ensures { taken result ≡ poured (constraint self.now.image.now limits self.now.atoms) literal_count count 0 start }
+    {
+        take_each(
+            start,
+            count,
+            Literals::start(),
+            |at, sum| self.take_constraint(at, sum),
+        )
+    }
+
+    pub fn take_goal(&self, at: usize) -> Result<(u32, usize), Fault>
+        ensures { taken result ≡ seen (λ ls. 0 + sum (λ _. 1) ls) (counted self.now.image.now limits.goal (times (literal self.now.image.now self.now.atoms)) at) }
+    {
+        let (count, next) = fields::take_count(self.image, at, MOST_GOAL)?;
+        self.take_literals(next, count)
+    }
+
+    pub fn take_all_clauses(&self, at: usize) -> Result<(Bodies, usize), Fault>
+        ensures { taken result ≡ seen (λ cs. 0 + sum body_count cs) (counted self.now.image.now limits.clauses (λ n. running (clause self.now.image.now limits self.now.atoms self.now.abducibles) body_count n 0) at) }
+    {
+        let (count, next) = fields::take_count(self.image, at, MOST_CLAUSES)?;
+        self.take_clauses(next, count)
+    }
+
+    pub fn take_all_constraints(&self, at: usize) -> Result<(Literals, usize), Fault>
+        ensures { taken result ≡ seen (λ ks. 0 + sum literal_count ks) (counted self.now.image.now limits.constraints (λ n. running (constraint self.now.image.now limits self.now.atoms) literal_count n 0) at) }
+    {
+        let (count, next) = fields::take_count(self.image, at, MOST_CONSTRAINTS)?;
+        self.take_constraints(next, count)
+    }
+
+    pub fn take_clauses_and_constraints(&self, at: usize) -> Result<usize, Fault>
+        ensures { passed result ≡ seen (λ _. 0) (clauses_and_constraints self.now.image.now limits self.now.atoms self.now.abducibles at) }
+    {
+        let (_, next) = self.take_all_clauses(at)?;
+        let (_, end) = self.take_all_constraints(next)?;
+        Ok(end)
+    }
 }

@@ -1,10 +1,13 @@
 -- What the writing functions require of the codes, and where their parts end.
 -- Assumes nothing.
 use Rattle.std.specs.Prelude.{ℕ, zero, suc, ◌+◌, ◌≤◌, ◌<◌, ◌≡◌, refl, Bool, true, false, ◌||◌, List, [], ◌∷◌, length, get_or, take, drop}
-use Rattle.std.proofs.Common.{arith, sym, ap, ◌∙◌, take-take, get_or-take, get_or-drop, drop-drop}
+use Rattle.std.proofs.Common.{arith, sym, ap, ◌∙◌, ⊎_elim, take-take, get_or-take, get_or-drop, drop-drop, length-take}
+use Rattle.std.proofs.Math.Dec.{ltb}
+use Rattle.std.proofs.Math.ListN.{get_or-eq_default}
+use Rattle.std.proofs.lemmas.Bool.{ltb-true, ltb-false}
 use Rattle.std.proofs.Math.Seq.{slice, length-slice, take-nil}
 use Rattle.base.specs.paper.Bools.{choose}
-use Rattle.base.specs.Bools.{clash}
+use Rattle.base.specs.Bools.{clash, decide}
 use Rattle.base.specs.paper.Lists.{any}
 use Rattle.base.specs.Lists.{ahead}
 use Rattle.spelling.specs.Codes.{first_name}
@@ -14,11 +17,16 @@ use Rattle.writer.specs.Fields.{Part, part, longer, is_end, parts_of}
 abbrev pub Known : List ℕ → List ℕ → Type 0
 Known codes numbers = (i : ℕ) → get_or codes i 0 < first_name + length numbers
 
--- a part, and the numbers of its names
-pub record OnePart (codes : List ℕ) (from to : ℕ) (numbers : List ℕ) : Type 0 where
-  pub order : from ≤ to
-  pub within : to ≤ length codes
-  pub known : Known codes numbers
+-- and so has every name of a part
+pub known_part : (codes numbers : List ℕ) (from to : ℕ) → Known codes numbers → Known (slice from to codes) numbers
+known_part codes numbers from to known i =
+    ⊎_elim
+    (λ (q : ltb (from + i) to ≡ true).
+    omega (arith, get_or-drop from (take to codes) i 0, get_or-take to codes (from + i) 0 (ltb-true (from + i) to q), known (from + i)))
+    (λ (q : ltb (from + i) to ≡ false).
+    let long = ltb-false (from + i) to q in
+    omega (arith, get_or-drop from (take to codes) i 0, get_or-eq_default (take to codes) 0 (let l : length (take to codes) ≤ from + i = omega (arith, length-take to codes) in l)))
+    (decide (ltb (from + i) to))
 
 -- a goal line at this place, before it statements whose parts all end, and the numbers of the names
 pub record Statements (codes : List ℕ) (goal : ℕ) (numbers : List ℕ) : Type 0 where

@@ -1,13 +1,13 @@
 -- The inside of a record, by its kind: what each call needs, and what they leave.
 -- Assumes nothing.
-use Rattle.std.specs.Prelude.{ℕ, ◌+◌, ◌-◌, ◌*◌, ◌≤◌, ◌<◌, ◌≡◌, List, ◌++◌, length}
+use Rattle.std.specs.Prelude.{ℕ, ◌+◌, ◌-◌, ◌*◌, ◌≤◌, ◌≡◌, List, ◌++◌, length}
 use Rattle.std.proofs.Common.{arith, sym, ap, length-append, eq-eqb, ne_eqb}
 use Rattle.std.proofs.Math.Seq.{slice}
 use Rattle.base.specs.Bools.{choose_true, choose_false}
 use Rattle.spelling.specs.Codes.{dot_code}
 use Rattle.writer.specs.Fields.{Part, number_in, rule_of, lits_of, counted, ways_of, inside_of}
 use Rattle.writer.specs.Wrote.{Wrote, wrote_length, wrote_same, wrote_more}
-use Rattle.writer.specs.Due.{OnePart, Statements, parts_from}
+use Rattle.writer.specs.Due.{parts_from}
 
 module _ (codes : List ℕ) (goal : ℕ) (numbers : List ℕ) (kind from to : ℕ) where
   abbrev ks : List ℕ
@@ -24,9 +24,6 @@ module _ (codes : List ℕ) (goal : ℕ) (numbers : List ℕ) (kind from to : �
 
   abbrev ways : List ℕ
   ways = ways_of (number_in numbers) ps
-
-  pub inside_part : Statements codes goal numbers → from ≤ to → to < goal → OnePart codes from to numbers
-  inside_part s a b = record { order = a; within = omega (arith, s.within); known = s.known }
 
   module _ (e : kind ≡ dot_code) where
     clause : all ≡ rule_of (number_in numbers) ks

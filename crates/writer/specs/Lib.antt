@@ -2,6 +2,7 @@
 pub mod Fields
 pub mod Wrote
 pub mod Due
+pub mod Kinds
 pub mod Names
 pub mod Ways
 pub mod Records

@@ -8,7 +8,7 @@ use Rattle.base.specs.paper.Bools.{choose}
 use Rattle.spelling.specs.Codes.{dot_code}
 use Rattle.writer.specs.Fields.{number_in, lits_of, parts_of, way_of, ways_of}
 use Rattle.writer.specs.Wrote.{Wrote, Owed, owed_start, owed_length, owed_step, owed_last, owed_none}
-use Rattle.writer.specs.Due.{OnePart, Statements, stop_of, parts_from, Next, next_part}
+use Rattle.writer.specs.Due.{Statements, stop_of, parts_from, Next, next_part}
 
 pub no_parts : (codes : List ℕ) (i goal : ℕ) → i ≤ goal → goal ≤ i → parts_from codes i goal ≡ []
 unfolding parts_of
@@ -39,9 +39,6 @@ module _ (codes : List ℕ) (from goal : ℕ) (numbers image₀ : List ℕ) (at 
 
       pub waying_place : (i ≤ stop) × (stop < goal)
       waying_place = (next.low, next.high)
-
-      pub waying_part : OnePart codes i stop numbers
-      waying_part = record { order = next.low; within = omega (arith, next.high, s.within); known = s.known }
 
       abbrev way : List ℕ
       way = way_of (lits_of (number_in numbers) (slice i stop codes))

@@ -5,7 +5,6 @@ use Rattle.std.proofs.Common.{arith, sym, subst, ◌∙◌, length-append}
 use Rattle.std.proofs.Math.Path.{ap}
 use mathlib.Core.List.{List, [], ◌∷◌, ◌++◌}
 use Rattle.std.proofs.Math.ListN.{length, drop, set}
-use Rattle.std.proofs.Math.Seq.{slice, take-length}
 use Rattle.base.specs.paper.Lists.{flat}
 use Rattle.image.specs.paper.Front.{version, version_at, length_at, atoms_at}
 use Rattle.image.specs.paper.Walk.{field_values}
@@ -13,14 +12,13 @@ use Rattle.image.specs.paper.Spell.{two}
 use Rattle.image.specs.Laid.{laid, length_laid, length_two, laid_whole}
 use Rattle.spelling.specs.Codes.{dot_code, arrow_code}
 use Rattle.writer.specs.Fields.{number_in, lits_of, counted, parts_of, statements_of, fields_by, framed}
-use Rattle.writer.specs.Wrote.{Wrote, wrote_field, wrote_length, wrote_same, wrote_more, wrote_front}
-use Rattle.writer.specs.Due.{OnePart, Statements}
+use Rattle.writer.specs.Wrote.{Wrote, wrote_field, wrote_length, wrote_more, wrote_front}
 
 -- ---- the fields
 
 module _ (codes : List ℕ) (goal : ℕ) (numbers : List ℕ) (atoms abducibles : ℕ) where
   abbrev goals : List ℕ
-  goals = counted (lits_of (number_in numbers) (slice (goal + 1) (length codes) codes))
+  goals = counted (lits_of (number_in numbers) (drop (goal + 1) codes))
 
   abbrev clauses : List ℕ
   clauses = statements_of (number_in numbers) dot_code (parts_of (take goal codes))
@@ -31,14 +29,8 @@ module _ (codes : List ℕ) (goal : ℕ) (numbers : List ℕ) (atoms abducibles 
   abbrev all : List ℕ
   all = fields_by (number_in numbers) codes goal atoms abducibles
 
-  whole : atoms ∷ abducibles ∷ (goals ++ (clauses ++ constraints)) ≡ all
-  whole = ap (λ (l : List ℕ). atoms ∷ abducibles ∷ (counted (lits_of (number_in numbers) (drop (goal + 1) l)) ++ (clauses ++ constraints))) (take-length codes)
-
-  pub goal_part : Statements codes goal numbers → OnePart codes (goal + 1) (length codes) numbers
-  goal_part s = record { order = omega (arith, s.within); within = omega arith; known = s.known }
-
   lengths : length all ≡ 2 + length goals + length clauses + length constraints
-  lengths = omega (arith, ap length whole, length-append goals (clauses ++ constraints), length-append clauses constraints)
+  lengths = omega (arith, length-append goals (clauses ++ constraints), length-append clauses constraints)
 
   module _ (l : List ℕ) (h : atoms_at + 2 * length all ≤ length l) {l₁ l₂ : List ℕ} (e₁ : l₁ ≡ laid l atoms_at (atoms ∷ [])) (e₂ : l₂ ≡ laid l₁ (atoms_at + 2) (abducibles ∷ [])) where
     same : length l₂ ≡ length l
@@ -57,10 +49,9 @@ module _ (codes : List ℕ) (goal : ℕ) (numbers : List ℕ) (atoms abducibles 
 
         pub fields_wrote : {l₅ : List ℕ} {r₅ : ℕ} → Wrote constraints l₄ r₄ l₅ r₅ → Wrote all l atoms_at l₅ r₅
         fields_wrote w₅ =
-            wrote_same whole
-            (wrote_more (subst (λ (m : List ℕ). Wrote (atoms ∷ []) l atoms_at m (atoms_at + 2)) (sym e₁) (wrote_field l atoms_at atoms))
+            wrote_more (subst (λ (m : List ℕ). Wrote (atoms ∷ []) l atoms_at m (atoms_at + 2)) (sym e₁) (wrote_field l atoms_at atoms))
             (wrote_more (subst (λ (m : List ℕ). Wrote (abducibles ∷ []) l₁ (atoms_at + 2) m (atoms_at + 4)) (sym e₂) (wrote_field l₁ (atoms_at + 2) abducibles))
-            (wrote_more w₃ (wrote_more w₄ w₅))))
+            (wrote_more w₃ (wrote_more w₄ w₅)))
 
 -- ---- the front
 

@@ -1,18 +1,21 @@
 -- What `admits` promises, after paper 02, A3.7: "It answers *admitted* or *excluded* with its nodes, or 1 to 9, 21, 22, 23, 30. Admitted exactly if
 -- some explaining set has h."
 -- Assumes nothing.
-use Rattle.std.specs.Prelude.{ℕ, ◌≡◌, true, List, ◌++◌, ltb, length, drop}
+use Rattle.std.specs.Prelude.{ℕ, ◌≡◌, true, List, ◌++◌, ltb, length, drop, Result as Returned, Ok, Err}
 use Rattle.base.specs.paper.Bools.{choose}
 use Rattle.base.specs.paper.Members.{has}
 use Rattle.image.specs.paper.Book.{Book}
 use Rattle.image.specs.paper.Decode.{Decoded, accepted, refused, decode}
+use Rattle.image.specs.paper.Refusals.{number_of}
 use Rattle.meaning.specs.paper.Meaning.{explains}
 use Rattle.sets.specs.paper.Kept.{zeros}
 use Rattle.searching.specs.paper.Seek.{Seeking, admitted, excluded, spent, sought}
 use Rattle.area.specs.paper.Work.{work_numbers}
 use Rattle.lister.specs.paper.Promise.{most_budget}
-use Rattle.admitting.specs.declared.Admission.{Admission}
-use Rattle.admitting.specs.declared.Admission.TheVariants.{Admitted, Excluded, Broken, Refused}
+use Rattle.lister.specs.declared.NoAnswer.{NoAnswer}
+use Rattle.lister.specs.declared.NoAnswer.TheVariants as none
+use Rattle.admitting.specs.declared.Admission.{Admission as Found}
+use Rattle.admitting.specs.declared.Admission.TheVariants as found
 
 -- how the call ends: with the image's own refusal and its place, turned away with a number, or as the second search does
 pub data Result : Type 0 where
@@ -30,6 +33,19 @@ by_book (accepted b) h budget space =
 
 unfoldable pub result_of : List ℕ → ℕ → ℕ → ℕ → Result
 result_of image h budget space = by_book (decode image) h budget space
+
+pub data Admission : Type 0 where
+  Admitted : (nodes : ℕ) → Admission
+  Excluded : (nodes : ℕ) → Admission
+  Broken : (number place : ℕ) → Admission
+  Refused : (number nodes : ℕ) → Admission
+
+-- what `admits` returns, as an admission
+abbrev pub admission : Returned Found NoAnswer → Admission
+admission (Ok (found.Admitted n)) = Admitted n
+admission (Ok (found.Excluded n)) = Excluded n
+admission (Err (none.Broken fault)) = Broken (number_of fault.refusal) fault.place
+admission (Err (none.Refused refusal n)) = Refused (number_of refusal) n
 
 abbrev pub answer_of : Result → Admission
 answer_of (broken n at) = Broken n at

@@ -1,7 +1,7 @@
 -- What `clean` promises, after paper 02, A4: its answer to a group, and what it leaves in list and work area, on all inputs; and what the
 -- answer says of all explaining sets. Words in quotation marks are A4's.
 -- Assumes nothing.
-use Rattle.std.specs.Prelude.{ℕ, zero, suc, ◌+◌, ◌^◌, ◌≡◌, true, ◌||◌, List, [], ◌∷◌, leb, ltb, eqb, length}
+use Rattle.std.specs.Prelude.{ℕ, zero, suc, ◌+◌, ◌^◌, ◌≡◌, true, ◌||◌, Result as Returned, Ok, Err, List, [], ◌∷◌, leb, ltb, eqb, length}
 use Rattle.std.specs.Int.Bits.{bit_or}
 use Rattle.base.specs.paper.Bools.{choose}
 use Rattle.base.specs.paper.Lists.{all, filter}
@@ -9,18 +9,19 @@ use Rattle.base.specs.paper.Members.{has}
 use Rattle.image.specs.paper.Book.{Book}
 use Rattle.image.specs.paper.Faults.{limits}
 use Rattle.image.specs.paper.Walk.{Finding, fine, wrong, unless}
+use Rattle.image.specs.paper.Refusals.{number_of}
+use Rattle.image.specs.declared.refusals.Refusal.{Refusal}
 use Rattle.image.specs.paper.Decode.{Decoded, accepted, refused, decode}
 use Rattle.sets.specs.paper.Kept.{longest}
 use Rattle.area.specs.paper.Work.{work_numbers}
 use Rattle.lister.specs.paper.Promise.{most_budget, Result, work_of}
 use Rattle.admitting.specs.paper.Promise.{InSome}
-use Rattle.engine.specs.declared.Verdict.{Verdict}
-use Rattle.engine.specs.declared.Verdict.TheVariants.{Unexplained, Needed, Possible, RuledOut, Broken, Refused}
-use Rattle.engine.specs.paper.Verdict.{verdict_result, second, verdict_of, verdict_sets, Explainable, Says}
+use Rattle.engine.specs.paper.Verdict as verdict
+use Rattle.engine.specs.paper.Verdict.{Verdict, Unexplained, Needed, Possible, RuledOut, Broken, verdict_result, second, verdict_of, verdict_sets, Explainable, Says}
 use Rattle.groups.specs.paper.Group.{well_formed, observed, is_defined, with_facts, group_image}
 use Rattle.cleaner.specs.declared.Sorted.{Sorted}
-use Rattle.cleaner.specs.declared.Cleaning.{Cleaning}
-use Rattle.cleaner.specs.declared.Cleaning.TheVariants as cleaning
+use Rattle.cleaner.specs.declared.Cleaning.{Cleaning as Found}
+use Rattle.cleaner.specs.declared.Cleaning.TheVariants as found
 
 -- ---- the refusals before any verdict
 
@@ -79,7 +80,7 @@ noted h (Needed n) s = sorted (with_needed h s)
 noted h (Possible n) s = sorted (with_possible h s)
 noted h (RuledOut n) s = sorted (with_ruled_out h s)
 noted h (Broken n at) s = number n
-noted h (Refused n m) s = number n
+noted h (verdict.Refused n m) s = number n
 
 -- How a group ends: turned away before any verdict; with all verdicts, and the last one's hypothesis; or at the hypothesis whose verdict was
 -- refused.
@@ -115,12 +116,23 @@ ending_of (accepted b) group hypotheses budget room space = ending_by (refusal b
 unfoldable pub ending : List ℕ → List ℕ → ℕ → ℕ → ℕ → ℕ → Ending
 ending book group hypotheses budget room space = ending_of (decode book) group hypotheses budget room space
 
+pub data Cleaning : Type 0 where
+  Deleted : Cleaning
+  Held : Sorted → Cleaning
+  Refused : (number : ℕ) → Cleaning
+
+-- what `clean` returns, as its answer
+abbrev pub cleaning : Returned Found Refusal → Cleaning
+cleaning (Ok found.Deleted) = Deleted
+cleaning (Ok (found.Held s)) = Held s
+cleaning (Err refusal) = Refused (number_of refusal)
+
 -- "Exactly where all of these are ruled out the group is deleted. Where one is not, it is held, and the answer has all verdicts. Where
 -- anything is refused it is held too, and the answer has that number and no verdict."
 abbrev pub answer_of : ℕ → Ending → Cleaning
-answer_of hypotheses (turned n) = cleaning.Refused n
-answer_of hypotheses (all_sorted last s) = choose (eqb s.excluded hypotheses) cleaning.Deleted (cleaning.Held s)
-answer_of hypotheses (stopped last n) = cleaning.Refused n
+answer_of hypotheses (turned n) = Refused n
+answer_of hypotheses (all_sorted last s) = choose (eqb s.excluded hypotheses) Deleted (Held s)
+answer_of hypotheses (stopped last n) = Refused n
 
 -- the image that the verdicts are on; a refused book has none
 abbrev pub image_of : Decoded → List ℕ → List ℕ
@@ -156,9 +168,9 @@ pub record Told (b : Book) (s : Sorted) (h : ℕ) : Type 0 where
 -- What an answer says of the book with the group's facts. **A group is deleted only if some set explains what was observed and no explaining
 -- set, of any size, has any of the hypotheses to keep safe.**
 abbrev pub Means : Book → ℕ → Cleaning → Type 0
-Means b hypotheses cleaning.Deleted = Explainable b × ((h : ℕ) → has hypotheses h ≡ true → InSome b h → ⊥)
-Means b hypotheses (cleaning.Held s) = (h : ℕ) → has hypotheses h ≡ true → Told b s h
-Means b hypotheses (cleaning.Refused n) = Unit {0}
+Means b hypotheses Deleted = Explainable b × ((h : ℕ) → has hypotheses h ≡ true → InSome b h → ⊥)
+Means b hypotheses (Held s) = (h : ℕ) → has hypotheses h ≡ true → Told b s h
+Means b hypotheses (Refused n) = Unit {0}
 
 -- ---- the promise
 

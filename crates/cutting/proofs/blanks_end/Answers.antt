@@ -1,10 +1,7 @@
 -- `cutting::blanks_end` meets its contract. Assumes nothing.
 use mathlib.Core.Path.{sym, ◌∙◌}
-use Rattle.cutting.specs.Spans.{passing_first, passing_more, blanks_met, blanks_over}
+use Rattle.cutting.specs.Spans.{passing_more, blanks_met, blanks_over}
 use Rattle.cutting.proofs.blanks_end.Goals as goal
-
-pub loop-i-init : goal.loop-i-init
-loop-i-init c = passing_first _ _ c.requires
 
 pub returns-then-not-is_blank : goal.returns-then-not-is_blank
 returns-then-not-is_blank c = blanks_met _ _ _ c.loop-i.invariant c.loop-i-test.true (sym c.is_blank.ensures ∙ c.if-not-is_blank.true)

@@ -1,37 +1,30 @@
 -- `cutting::sign_at` meets its contract. Assumes nothing.
+use native.Mathlib.Omega.{arith}
 use mathlib.Core.Path.{sym, ◌∙◌}
-use Rattle.cutting.specs.Off.{close_fixed, comma_fixed, neck_fixed, semicolon_fixed, dot_fixed, arrow_fixed, query_fixed, fixed_off, other_off}
+use Rattle.base.specs.Lists.{every_none, every_more}
+use Rattle.cutting.specs.Entries.{unmet_first, unmet_more, each_entry}
+use Rattle.cutting.specs.Off.{FixedEntry, close_fixed, comma_fixed, neck_fixed, semicolon_fixed, dot_fixed, arrow_fixed, query_fixed, fixed_off, other_off}
 use Rattle.cutting.proofs.sign_at.Goals as goal
 
+pub loop-word-init : goal.loop-word-init
+loop-word-init c = unmet_first _ _
+
 pub returns-then-begins : goal.returns-then-begins
-returns-then-begins c = fixed_off _ _ comma_fixed (sym c.begins.ensures ∙ c.if-begins.true) c.fixed.ensures
+returns-then-begins c =
+    let fixed =
+    every_more comma_fixed
+    (every_more close_fixed
+    (every_more dot_fixed
+    (every_more neck_fixed (every_more semicolon_fixed (every_more arrow_fixed (every_more query_fixed (every_none FixedEntry))))))) in
+    fixed_off _ _ (each_entry _ fixed c.loop-word.word-index c.loop-word-test.true) (sym c.begins.ensures ∙ c.if-begins.true) c.fixed.ensures
 
-pub returns-then-begins-2 : goal.returns-then-begins-2
-returns-then-begins-2 c = fixed_off _ _ close_fixed (sym c.begins-2.ensures ∙ c.if-begins-2.true) c.fixed-then-begins-2.ensures
-
-pub returns-then-begins-3 : goal.returns-then-begins-3
-returns-then-begins-3 c = fixed_off _ _ dot_fixed (sym c.begins-3.ensures ∙ c.if-begins-3.true) c.fixed-then-begins-3.ensures
-
-pub returns-then-begins-4 : goal.returns-then-begins-4
-returns-then-begins-4 c = fixed_off _ _ neck_fixed (sym c.begins-4.ensures ∙ c.if-begins-4.true) c.fixed-then-begins-4.ensures
-
-pub returns-then-begins-5 : goal.returns-then-begins-5
-returns-then-begins-5 c = fixed_off _ _ semicolon_fixed (sym c.begins-5.ensures ∙ c.if-begins-5.true) c.fixed-then-begins-5.ensures
-
-pub returns-then-begins-6 : goal.returns-then-begins-6
-returns-then-begins-6 c = fixed_off _ _ arrow_fixed (sym c.begins-6.ensures ∙ c.if-begins-6.true) c.fixed-then-begins-6.ensures
-
-pub returns-then-begins-7 : goal.returns-then-begins-7
-returns-then-begins-7 c = fixed_off _ _ query_fixed (sym c.begins-7.ensures ∙ c.if-begins-7.true) c.fixed-then-begins-7.ensures
+pub loop-word-preserved : goal.loop-word-preserved
+loop-word-preserved c = unmet_more _ _ _ c.loop-word.invariant (sym c.begins.ensures ∙ c.if-begins.false)
 
 pub returns : goal.returns
 returns c =
     let pre = c.requires in
-    other_off _ _ pre.0 pre.2 (sym c.begins.ensures ∙ c.if-begins.false)
-    (sym c.begins-2.ensures ∙ c.if-begins-2.false)
-    (sym c.begins-3.ensures ∙ c.if-begins-3.false)
-    (sym c.begins-4.ensures ∙ c.if-begins-4.false)
-    (sym c.begins-5.ensures ∙ c.if-begins-5.false)
-    (sym c.begins-6.ensures ∙ c.if-begins-6.false)
-    (sym c.begins-7.ensures ∙ c.if-begins-7.false)
-    c.fixed-2.ensures
+    let past = c.loop-word-test.false in
+    let unmet = c.loop-word.invariant.each in
+    other_off _ _ pre.0 pre.2 (unmet 0 (omega arith)) (unmet 1 (omega arith)) (unmet 2 (omega arith)) (unmet 3 (omega arith)) (unmet 4 (omega arith))
+    (unmet 5 (omega arith)) (unmet 6 (omega arith)) c.fixed-2.ensures

@@ -11,16 +11,16 @@ sign_at-requires c =
     let s = c in (
       s.requires.0,
       s.requires.1,
-      no_run c.run_at-run.ensures c.if-end-at.true,
+      no_run c.run_at-end.ensures c.if-end-at.true,
     )
 
 pub returns-then-end-at-gt5 : goal.returns-then-end-at-gt5
 returns-then-end-at-gt5 c =
     let args = c.args in
-    let run = c.run_at-run.ensures in
+    let run = c.run_at-end.ensures in
     let none = long_bare (name_at args.text.now args.at) (omega arith) in
     bare_off run (omega arith) none
-    (c.name_code.ensures ∙ run_coded args.text.now args.at c.run_at-run.result.end (omega arith) run.within run.long none)
+    (c.name_code.ensures ∙ run_coded args.text.now args.at c.run_at-end.result.end (omega arith) run.within run.long none)
 
 pub returns-then-begins : goal.returns-then-begins
 returns-then-begins c = fixed_off _ _ abd_fixed (sym c.begins.ensures ∙ c.if-begins.true) c.fixed.ensures
@@ -30,5 +30,5 @@ returns-then-begins-2 c = fixed_off _ _ naf_fixed (sym c.begins-2.ensures ∙ c.
 
 pub returns : goal.returns
 returns c =
-    unopened_off c.run_at-run.ensures (omega arith) (sym c.begins.ensures ∙ c.if-begins.false)
+    unopened_off c.run_at-end.ensures (omega arith) (sym c.begins.ensures ∙ c.if-begins.false)
     (sym c.begins-2.ensures ∙ c.if-begins-2.false) c.run_code.ensures

@@ -1,38 +1,21 @@
 -- `embed::wizogbare_judge` meets its contract. Assumes nothing.
-use Prim.Native.Nat.{ℕ, ◌+◌}
-use mathlib.Core.Path.{sym, ap, subst, ◌∙◌}
-use native.Mathlib.Omega.{arith}
-use Rattle.embed.specs.paper.Codes.{judgement_code, judge_broken}
-use Rattle.embed.specs.Bounds.{JudgementWithin, judgement_within}
+use Rattle.std.proofs.Common.{◌≡◌, Err, subst, ap, arith}
+use Rattle.image.specs.declared.refusals.Fault.{Fault}
+use Rattle.image.specs.paper.Refusals.{number_of}
+use Rattle.judging.specs.declared.NoJudgement.{NoJudgement}
+use Rattle.judging.specs.declared.NoJudgement.TheVariants as none
+use Rattle.judging.specs.paper.Judged.{judgement}
+use Rattle.embed.specs.Bounds.{BrokenAt, JudgementWithin, judgement_within}
 use Rattle.embed.proofs.wizogbare_judge.Goals as goal
 
+-- the image's own refusal has a small number, and a place of the image
+few : (e : NoJudgement) (fault : Fault) → e ≡ none.Broken fault → JudgementWithin (judgement (Err e)) → BrokenAt (number_of fault.refusal) fault.place
+few e fault is k = subst JudgementWithin (ap (λ (e : NoJudgement). judgement (Err e)) is) k
+
 pub broken_code-requires : goal.broken_code-requires
-broken_code-requires c = (subst JudgementWithin c.in-Broken.is (judgement_within _ _ _ c.judge.ensures)).place
+broken_code-requires c = (few _ _ c.in-Err-Broken.field-0-is (judgement_within _ _ _ c.in-Err-Broken.ensures)).place
 
-pub overflow_add-result-in-Broken : goal.overflow_add-result-in-Broken
-overflow_add-result-in-Broken c =
-    let few = subst JudgementWithin c.in-Broken.is (judgement_within _ _ _ c.judge.ensures) in
-    omega (arith, c.broken_code.ensures, few.number.most, few.place)
-
-pub returns-in-Explains : goal.returns-in-Explains
-returns-in-Explains c = record { answer = c.judge.result; judges = c.judge.ensures; code = sym (ap judgement_code c.in-Explains.is) }
-
-pub returns-in-FalseGoal : goal.returns-in-FalseGoal
-returns-in-FalseGoal c =
-    record { answer = c.judge.result; judges = c.judge.ensures; code = sym (ap judgement_code c.in-FalseGoal.is) }
-
-pub returns-in-BrokenConstraint : goal.returns-in-BrokenConstraint
-returns-in-BrokenConstraint c =
-    record { answer = c.judge.result; judges = c.judge.ensures; code = sym (ap judgement_code c.in-BrokenConstraint.is) }
-
-pub returns-in-Broken : goal.returns-in-Broken
-returns-in-Broken c =
-    record {
-      answer = c.judge.result;
-      judges = c.judge.ensures;
-      code = ap (λ (x : ℕ). judge_broken + x) c.broken_code.ensures ∙ sym (ap judgement_code c.in-Broken.is);
-    }
-
-pub returns-in-Refused : goal.returns-in-Refused
-returns-in-Refused c =
-    record { answer = c.judge.result; judges = c.judge.ensures; code = sym (ap judgement_code c.in-Refused.is) }
+pub overflow_add-result-in-Err-Broken : goal.overflow_add-result-in-Err-Broken
+overflow_add-result-in-Err-Broken c =
+    let k = few _ _ c.in-Err-Broken.field-0-is (judgement_within _ _ _ c.in-Err-Broken.ensures) in
+    omega (arith, c.broken_code.ensures, k.number.most, k.place)

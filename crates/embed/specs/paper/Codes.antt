@@ -29,26 +29,19 @@
 --   names     Refused n            2^32 * n
 -- Assumes nothing.
 use Rattle.std.specs.Prelude.{ℕ, ◌+◌, ◌*◌, ◌^◌, ◌≡◌, List}
-use Rattle.book.specs.declared.Reading.{Reading}
-use Rattle.book.specs.declared.Reading.TheVariants as reading
-use Rattle.book.specs.paper.Reading.{Reads}
-use Rattle.judging.specs.declared.Judgement.{Judgement}
-use Rattle.judging.specs.declared.Judgement.TheVariants as judgement
-use Rattle.judging.specs.paper.Judged.{Judges}
-use Rattle.lister.specs.declared.Listing.{Listing}
-use Rattle.lister.specs.declared.Listing.TheVariants as listing
-use Rattle.lister.specs.paper.Promise.{Lists}
-use Rattle.admitting.specs.declared.Admission.{Admission}
-use Rattle.admitting.specs.declared.Admission.TheVariants as admission
-use Rattle.admitting.specs.paper.Promise.{Admits}
-use Rattle.engine.specs.declared.Verdict.{Verdict}
-use Rattle.engine.specs.declared.Verdict.TheVariants as verdict
-use Rattle.engine.specs.paper.Verdict.{Verdicts}
-use Rattle.joiner.specs.declared.Joined.{Joined}
-use Rattle.joiner.specs.declared.Joined.TheVariants as joined
-use Rattle.joiner.specs.paper.Join.{Joins}
-use Rattle.image.specs.declared.Writing.{Writing}
-use Rattle.image.specs.declared.Writing.TheVariants as writing
+use Rattle.book.specs.paper.Reading.{Reading, Reads}
+use Rattle.book.specs.paper.Reading as reading
+use Rattle.judging.specs.paper.Judged as judgement
+use Rattle.judging.specs.paper.Judged.{Judgement, Judges}
+use Rattle.lister.specs.paper.Promise as listing
+use Rattle.lister.specs.paper.Promise.{Listing, Lists}
+use Rattle.admitting.specs.paper.Promise as admission
+use Rattle.admitting.specs.paper.Promise.{Admission, Admits}
+use Rattle.engine.specs.paper.Verdict as verdict
+use Rattle.engine.specs.paper.Verdict.{Verdict, Verdicts}
+use Rattle.joiner.specs.paper.Join.{Joined, Count, Refused, Joins}
+use Rattle.image.specs.paper.Writing.{Writing}
+use Rattle.image.specs.paper.Writing as writing
 use Rattle.spelling.specs.paper.Document.{Document}
 use Rattle.spelling.specs.paper.Answer.{Writes}
 
@@ -165,8 +158,8 @@ pub record VerdictCode (s : List ℕ) (h budget : ℕ) (list area : List ℕ) (r
   pub code : r ≡ verdict_code answer
 
 abbrev pub joined_code : Joined → ℕ
-joined_code (joined.Count k) = k
-joined_code (joined.Refused n) = node_codes * n
+joined_code (Count k) = k
+joined_code (Refused n) = node_codes * n
 
 pub record JoinedCode (left right out : List ℕ) (r : ℕ) (after : List ℕ) : Type 0 where
   pub answer : Joined

@@ -2,12 +2,13 @@
 -- does not settle it, there is a second search. And what each verdict means, in words of explaining sets of any size. Words in quotation marks are
 -- A3's.
 -- Assumes nothing.
-use Rattle.std.specs.Prelude.{ℕ, ◌+◌, ◌≡◌, Bool, true, false, ◌⊎◌, List, [], ◌∷◌, ltb, length}
+use Rattle.std.specs.Prelude.{ℕ, ◌+◌, ◌≡◌, Bool, true, false, ◌⊎◌, List, [], ◌∷◌, ltb, length, Result as Returned, Ok, Err}
 use Rattle.base.specs.paper.Bools.{choose}
 use Rattle.base.specs.paper.Lists.{all, any}
 use Rattle.base.specs.paper.Members.{has}
 use Rattle.image.specs.paper.Book.{Book}
 use Rattle.image.specs.paper.Decode.{Decoded, accepted, refused, decode}
+use Rattle.image.specs.paper.Refusals.{number_of}
 use Rattle.meaning.specs.paper.Meaning.{explains}
 use Rattle.sets.specs.paper.Kept.{zeros}
 use Rattle.searching.specs.paper.Rules.{root, finished, used_up, no_room}
@@ -15,8 +16,27 @@ use Rattle.searching.specs.paper.Tree.{size}
 use Rattle.searching.specs.paper.Seek.{Seeking, admitted, excluded, spent, sought}
 use Rattle.lister.specs.paper.Promise.{Result, broken, turned, searched, result_of, sets_of, work_of}
 use Rattle.admitting.specs.paper.Promise.{InSome}
-use Rattle.engine.specs.declared.Verdict.{Verdict}
-use Rattle.engine.specs.declared.Verdict.TheVariants.{Unexplained, Needed, Possible, RuledOut, Broken, Refused}
+use Rattle.lister.specs.declared.NoAnswer.{NoAnswer}
+use Rattle.lister.specs.declared.NoAnswer.TheVariants as none
+use Rattle.engine.specs.declared.Verdict.{Verdict as Found}
+use Rattle.engine.specs.declared.Verdict.TheVariants as found
+
+pub data Verdict : Type 0 where
+  Unexplained : (nodes : ℕ) → Verdict
+  Needed : (nodes : ℕ) → Verdict
+  Possible : (nodes : ℕ) → Verdict
+  RuledOut : (nodes : ℕ) → Verdict
+  Broken : (number place : ℕ) → Verdict
+  Refused : (number nodes : ℕ) → Verdict
+
+-- what `verdict_on` returns, as a verdict or a refusal
+abbrev pub verdict : Returned Found NoAnswer → Verdict
+verdict (Ok (found.Unexplained n)) = Unexplained n
+verdict (Ok (found.Needed n)) = Needed n
+verdict (Ok (found.Possible n)) = Possible n
+verdict (Ok (found.RuledOut n)) = RuledOut n
+verdict (Err (none.Broken fault)) = Broken (number_of fault.refusal) fault.place
+verdict (Err (none.Refused refusal n)) = Refused (number_of refusal) n
 
 -- the hypothesis is an abducible of the book
 abbrev pub named : Decoded → ℕ → Bool

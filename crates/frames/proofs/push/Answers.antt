@@ -2,32 +2,10 @@
 use Prim.Native.Nat.{◌+◌, ◌/◌, ◌%◌}
 use native.Mathlib.Omega.{arith}
 use mathlib.Core.Path.{refl}
-use lib.ListN.{length-set}
 use Rattle.memory.specs.Places.{bits32}
 use Rattle.memory.specs.Pieces.{pushed}
 use Rattle.frames.specs.Ways.{seven}
 use Rattle.frames.proofs.push.Goals as goal
-
-pub bounds-work-f-2 : goal.bounds-work-f-2
-bounds-work-f-2 c = simp length-set (omega (arith, c.requires.0.room, c.requires.0.layable.long))
-
-pub bounds-work-f-3 : goal.bounds-work-f-3
-bounds-work-f-3 c = simp length-set (omega (arith, c.requires.0.room, c.requires.0.layable.long))
-
-pub bounds-work-f-4 : goal.bounds-work-f-4
-bounds-work-f-4 c = simp length-set (omega (arith, c.requires.0.room, c.requires.0.layable.long))
-
-pub bounds-work-f-5 : goal.bounds-work-f-5
-bounds-work-f-5 c = simp length-set (omega (arith, c.requires.0.room, c.requires.0.layable.long))
-
-pub bounds-work-f-6 : goal.bounds-work-f-6
-bounds-work-f-6 c = simp length-set (omega (arith, c.requires.0.room, c.requires.0.layable.long))
-
-pub bounds-work-f-7 : goal.bounds-work-f-7
-bounds-work-f-7 c = simp length-set (omega (arith, c.requires.0.room, c.requires.0.layable.long))
-
-pub shape_of-work : goal.shape_of-work
-shape_of-work c = simp length-set
 
 pub returns : goal.returns
 unfolding pushed

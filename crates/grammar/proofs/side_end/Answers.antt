@@ -1,21 +1,12 @@
 -- `grammar::side_end` meets its contract. Assumes nothing.
-use mathlib.Core.Path.{sym, ◌∙◌}
-use native.Mathlib.Omega.{arith}
+use Rattle.std.proofs.Common.{ap, ◌∙◌}
 use Rattle.spelling.specs.Codes.{true_code}
-use Rattle.grammar.specs.Places.{side_end}
-use Rattle.grammar.proofs.PlaceLaws.{word_among, stood, astray}
+use Rattle.grammar.specs.Places.{end_or, literals_end, side_end}
+use Rattle.grammar.proofs.PlaceLaws.{word_or}
 use Rattle.grammar.proofs.side_end.Goals as goal
 
-pub overflow_add-result : goal.overflow_add-result
-overflow_add-result c =
-    let here = word_among c.args.codes.now true_code c.args.at (omega arith) (sym c.code_at.ensures ∙ c.if-code_at-eq-TRUE.true) in
-    omega arith
-
-pub returns-then-code_at-eq-TRUE : goal.returns-then-code_at-eq-TRUE
+pub returns : goal.returns
 unfolding side_end
-returns-then-code_at-eq-TRUE c = sym (stood _ _ _ _ _ (sym c.code_at.ensures ∙ c.if-code_at-eq-TRUE.true))
-
-pub returns-else-code_at-eq-TRUE : goal.returns-else-code_at-eq-TRUE
-unfolding side_end
-returns-else-code_at-eq-TRUE c =
-    c.literals_end.ensures ∙ sym (astray _ _ _ _ _ (λ e. c.if-code_at-eq-TRUE.false (c.code_at.ensures ∙ e)))
+returns c =
+    let codes = c.args.codes.now in
+    ap (end_or codes) c.or.ensures ∙ word_or codes true_code c.args.at (literals_end codes) c.word_end.result c.literals_end.result c.word_end.ensures c.literals_end.ensures

@@ -1,45 +1,60 @@
 -- `grammar::statement_end` meets its contract. Assumes nothing.
-use mathlib.Core.Path.{sym, ap, ◌∙◌}
-use Prim.Native.Nat.{ℕ}
-use native.Mathlib.Omega.{arith}
+use Rattle.std.specs.Prelude.{ℕ, List, false, ◌≡◌, length}
+use Rattle.std.proofs.Common.{arith, sym, ap, ◌∙◌}
+use Rattle.base.specs.Bools.{choose_true, choose_false}
 use Rattle.spelling.specs.Codes.{dot_code, neck_code}
-use Rattle.grammar.specs.Places.{word_end, body_end, from_head, statement_end}
-use Rattle.grammar.proofs.PlaceLaws.{word_among, stood, astray}
+use Rattle.grammar.specs.Places.{end_or, stands, atom_end, body_end, from_head, constraint_end, statement_end}
+use Rattle.grammar.proofs.PlaceLaws.{stands_among, stands_not, then_word, none_word}
 use Rattle.grammar.proofs.statement_end.Goals as goal
+use Rattle.grammar.proofs.statement_end.Goals.{in_default-via-in-Some-2+else-stands-2, in_default-via-in_default}
 
 pub overflow_add-result : goal.overflow_add-result
 overflow_add-result c =
-    let codes = c.args.codes.now in
-    let here = word_among codes dot_code c.atom_end-head.result (omega arith) (sym c.code_at-next.ensures ∙ c.if-next-eq-DOT.true) in
+    let here = stands_among c.args.codes.now dot_code c.in-Some.head (omega arith) (sym c.if-stands.ensures) in
     omega arith
 
 pub overflow_add-head : goal.overflow_add-head
 overflow_add-head c =
-    let codes = c.args.codes.now in
-    let here = word_among codes neck_code c.atom_end-head.result (omega arith) (sym c.code_at-next.ensures ∙ c.if-next-eq-NECK.true) in
+    let here = stands_among c.args.codes.now neck_code c.in-Some.head (omega arith) (sym c.if-stands-2.ensures) in
     omega arith
 
-pub returns-then-next-eq-DOT : goal.returns-then-next-eq-DOT
+pub returns-in-Some : goal.returns-in-Some
 unfolding statement_end
-returns-then-next-eq-DOT c =
-    sym (stood _ _ _ _ _ (sym c.code_at-next.ensures ∙ c.if-next-eq-DOT.true))
-    ∙ ap (λ (head : ℕ). from_head c.args.codes.now head c.args.at) c.atom_end-head.ensures
+returns-in-Some c =
+    sym (choose_true _ _ (sym c.if-stands.ensures)) ∙ ap (λ (head : ℕ). from_head c.args.codes.now head c.args.at) c.in-Some.ensures
 
-pub returns-then-next-eq-NECK : goal.returns-then-next-eq-NECK
+pub returns-in_err-body-in-Some-2 : goal.returns-in_err-body-in-Some-2
 unfolding statement_end body_end
-returns-then-next-eq-NECK c =
-    let next = c.code_at-next.ensures in
-    c.word_end.ensures
-    ∙ ap (word_end c.args.codes.now dot_code) c.literals_end.ensures
-    ∙ sym (stood _ _ _ _ _ (sym next ∙ c.if-next-eq-NECK.true))
-    ∙ sym (astray _ _ _ _ _ (λ e. c.if-next-eq-DOT.false (next ∙ e)))
-    ∙ ap (λ (head : ℕ). from_head c.args.codes.now head c.args.at) c.atom_end-head.ensures
+returns-in_err-body-in-Some-2 c =
+    let codes = c.args.codes.now in
+    ap (end_or codes) c.from_residual.ensures
+    ∙ none_word codes (omega arith) c.in_err-body-in-Some-2.ensures
+    ∙ sym (choose_true _ _ (sym c.if-stands-2.ensures))
+    ∙ sym (choose_false _ _ (sym c.if-stands.ensures))
+    ∙ ap (λ (head : ℕ). from_head codes head c.args.at) c.in-Some.ensures
 
-pub returns-else-next-eq-NECK : goal.returns-else-next-eq-NECK
+pub returns-in_ok-body-in-Some-2 : goal.returns-in_ok-body-in-Some-2
+unfolding statement_end body_end
+returns-in_ok-body-in-Some-2 c =
+    let codes = c.args.codes.now in
+    then_word codes dot_code c.word_end.result c.in_ok-body-in-Some-2.ensures c.word_end.ensures
+    ∙ sym (choose_true _ _ (sym c.if-stands-2.ensures))
+    ∙ sym (choose_false _ _ (sym c.if-stands.ensures))
+    ∙ ap (λ (head : ℕ). from_head codes head c.args.at) c.in-Some.ensures
+
+-- no clause begins at a head behind which neither "." nor ":-" stands
+other : (codes : List ℕ) (head at : ℕ) → stands codes dot_code head ≡ false → stands codes neck_code head ≡ false → head ≡ atom_end codes at
+    → constraint_end codes at ≡ statement_end codes at
 unfolding statement_end
-returns-else-next-eq-NECK c =
-    let next = c.code_at-next.ensures in
+other codes head at d n e = sym (choose_false _ _ n) ∙ sym (choose_false _ _ d) ∙ ap (λ (head : ℕ). from_head codes head at) e
+
+pub returns-in_default : goal.returns-in_default
+returns-in_default c =
+    let codes = c.args.codes.now in
     c.constraint_end.ensures
-    ∙ sym (astray _ _ _ _ _ (λ e. c.if-next-eq-NECK.false (next ∙ e)))
-    ∙ sym (astray _ _ _ _ _ (λ e. c.if-next-eq-DOT.false (next ∙ e)))
-    ∙ ap (λ (head : ℕ). from_head c.args.codes.now head c.args.at) c.atom_end-head.ensures
+    ∙ (elim c.in_default.branch [
+      | in_default-via-in-Some-2+else-stands-2 w ↦ other codes _ c.args.at (sym w.if-stands.ensures) (sym w.if-stands-2.ensures) w.in-Some.ensures
+      | in_default-via-in_default w ↦
+          other codes _ c.args.at (stands_not codes dot_code (length codes) (omega arith) (omega arith))
+          (stands_not codes neck_code (length codes) (omega arith) (omega arith)) w.in_default.ensures
+    ])

@@ -1,8 +1,18 @@
 -- Paper 02, 0.2: what a call that writes bytes answers, and what it leaves in its room.
 -- Assumes nothing.
-use Rattle.std.specs.Prelude.{ℕ, List, ◌++◌, length, drop}
-use Rattle.image.specs.declared.Writing.{Writing}
-use Rattle.image.specs.declared.Writing.TheVariants.{Written, Refused}
+use Rattle.std.specs.Prelude.{ℕ, List, ◌++◌, length, drop, Result, Ok, Err}
+use Rattle.image.specs.paper.Refusals.{number_of}
+use Rattle.image.specs.declared.refusals.Refusal.{Refusal}
+
+-- what a call that writes bytes answers: how many it wrote, or the number under which it refuses
+pub data Writing : Type 0 where
+  Written : ℕ → Writing
+  Refused : ℕ → Writing
+
+-- what such a call returns, as a writing
+abbrev pub writing : Result ℕ Refusal → Writing
+writing (Ok n) = Written n
+writing (Err refusal) = Refused (number_of refusal)
 
 -- how a call ends: it writes these bytes, or refuses with a number
 pub data Ending : Type 0 where

@@ -1,11 +1,6 @@
 -- `joiner::gather` meets its contract.
-use Prim.Native.Nat.{◌-◌}
-use lib.ListN.{length}
 use Rattle.joiner.proofs.Joining.{Gathering}
 use Rattle.joiner.proofs.gather.Given as given
 
 abbrev pub invariant-loop-i : given.invariant-loop-i
 invariant-loop-i l = Gathering l.behind l.initial.out l.count l.list l.out l.held l.i
-
-abbrev pub decreases-loop-i : given.decreases-loop-i
-decreases-loop-i l = length l.list - l.i

@@ -1,14 +1,10 @@
 -- `joiner::gather_both` meets its contract: the left list, before the right one, then that.
 -- Assumes nothing.
-use Rattle.joiner.proofs.Joining.{from_end, gathered_full, gathered_both}
+use Rattle.joiner.proofs.Joining.{gathered_full, gathered_both}
 use Rattle.joiner.proofs.gather_both.Goals as goal
 
-pub returns-then-some-out : goal.returns-then-some-out
-returns-then-some-out c =
-    let a = c.args in
-    gathered_full a.left.now a.right.now c.gather-some.ensures c.if-some-out.true
+pub returns-in_err-some : goal.returns-in_err-some
+returns-in_err-some c = rw c.from_residual.ensures (gathered_full c.args.left.now c.args.right.now _ c.in_err-some.ensures)
 
 pub returns : goal.returns
-returns c =
-    let a = c.args in
-    gathered_both a.left.now a.right.now (c.gather-some.ensures.fits c.if-some-out.false).list (from_end a.right.now) c.gather.ensures
+returns c = gathered_both c.args.left.now c.args.right.now _ _ c.in_ok-some.ensures.list c.gather-2.ensures

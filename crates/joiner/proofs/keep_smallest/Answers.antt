@@ -3,12 +3,8 @@
 use Rattle.joiner.proofs.Joining.{by_inserting, by_gathering}
 use Rattle.joiner.proofs.keep_smallest.Goals as goal
 
-pub returns-then-count-out : goal.returns-then-count-out
-returns-then-count-out c =
-    let a = c.args in
-    by_inserting a.left.now a.right.now c.if-count-out.true (c.insert_both-count.ensures c.if-count-out.true)
+pub returns-in-Some : goal.returns-in-Some
+returns-in-Some c = by_inserting c.args.left.now c.args.right.now c.in-Some.ensures
 
-pub returns : goal.returns
-returns c =
-    let a = c.args in
-    by_gathering a.left.now a.right.now c.gather_both.ensures
+pub returns-in-None : goal.returns-in-None
+returns-in-None c = by_gathering c.args.left.now c.args.right.now _ _ c.gather_both.ensures

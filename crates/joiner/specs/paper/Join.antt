@@ -1,12 +1,20 @@
 -- The joiner, after paper 01, 8.6: what it answers and what it leaves in the third list, for all lists; and the same in words of sets.
 -- Assumes nothing.
-use Rattle.std.specs.Prelude.{◌≡◌, Bool, ◌||◌, ◌↔◌, ◌⊎◌, List, ◌++◌, ℕ, ◌-◌, ◌≤◌, ◌<◌, ltb, length}
+use Rattle.std.specs.Prelude.{◌≡◌, Bool, ◌||◌, ◌↔◌, ◌⊎◌, List, ◌++◌, ℕ, ◌-◌, ◌≤◌, ◌<◌, ltb, length, Result, Ok, Err}
 use Rattle.base.specs.paper.Bools.{choose}
 use Rattle.base.specs.paper.Lists.{◌∈◌, Once}
 use Rattle.sets.specs.paper.Sets.{Proper}
 use Rattle.sets.specs.paper.Kept.{smallest, sort, Ordered, longest, zeros}
-use Rattle.joiner.specs.declared.Joined.{Joined}
-use Rattle.joiner.specs.declared.Joined.TheVariants.{Count, Refused}
+use Rattle.image.specs.declared.refusals.Refusal.{Refusal}
+use Rattle.image.specs.paper.Refusals.{number_of}
+
+-- what a join answers: how many sets there are, or a refusal's number
+pub data Joined : Type 0 where
+  Count Refused : ℕ → Joined
+
+abbrev pub joined : Result ℕ Refusal → Joined
+joined (Ok n) = Count n
+joined (Err r) = Refused (number_of r)
 
 -- "each set of the two lists of which neither list has a proper subset, one time", in order
 unfoldable pub joint : List ℕ → List ℕ → List ℕ

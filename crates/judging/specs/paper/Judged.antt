@@ -1,15 +1,33 @@
 -- The judge's answer to every image and every set, after paper 01, 6; its promise; and what each answer says in words of the meaning.
 -- Assumes nothing.
-use Rattle.std.specs.Prelude.{ℕ, ◌^◌, ◌≡◌, true, ◌⊎◌, List, leb, ltb, length}
+use Rattle.std.specs.Prelude.{ℕ, ◌^◌, ◌≡◌, true, ◌⊎◌, List, leb, ltb, length, Result, Ok, Err}
 use Rattle.base.specs.paper.Bools.{choose}
 use Rattle.image.specs.paper.Book.{Book}
 use Rattle.image.specs.paper.Decode.{Decoded, accepted, refused, decode}
+use Rattle.image.specs.paper.Refusals.{number_of}
 use Rattle.meaning.specs.paper.Meaning.{true_in, all_true, value, holds, explains, Members}
 use Rattle.judging.specs.paper.Failing.{First, first_failing}
-use Rattle.judging.specs.declared.Judgement.{Judgement}
-use Rattle.judging.specs.declared.Judgement.TheVariants.{Explains, FalseGoal, BrokenConstraint, Broken, Refused}
+use Rattle.judging.specs.declared.Judgement.{Judgement as Found}
+use Rattle.judging.specs.declared.Judgement.TheVariants as found
+use Rattle.judging.specs.declared.NoJudgement.{NoJudgement}
+use Rattle.judging.specs.declared.NoJudgement.TheVariants as none
 
 -- ---- the answer
+
+pub data Judgement : Type 0 where
+  Explains : Judgement
+  FalseGoal : (place : ℕ) → Judgement
+  BrokenConstraint : (place : ℕ) → Judgement
+  Broken : (number place : ℕ) → Judgement
+  Refused : (number : ℕ) → Judgement
+
+-- what `judge` returns, as a judgement
+abbrev pub judgement : Result Found NoJudgement → Judgement
+judgement (Ok found.Explains) = Explains
+judgement (Ok (found.FalseGoal i)) = FalseGoal i
+judgement (Ok (found.BrokenConstraint i)) = BrokenConstraint i
+judgement (Err (none.Broken fault)) = Broken (number_of fault.refusal) fault.place
+judgement (Err (none.Refused refusal)) = Refused (number_of refusal)
 
 -- the place of the first goal literal that is false; where all are true, their number
 abbrev pub first_false : Book → ℕ → ℕ

@@ -1,15 +1,9 @@
 -- `lister::list` meets its promise. Assumes nothing.
-use Rattle.lister.specs.PromiseLaws.{broken_lists, turned_lists, may_search}
+use Rattle.std.proofs.lemmas.Result.{err_from_is_err_and}
+use Rattle.lister.specs.PromiseLaws.{refused_lists}
 use Rattle.lister.proofs.list.Goals as goal
 
-pub list_book-requires : goal.list_book-requires
-list_book-requires c = may_search _ _ _ _ _ c.before_search.ensures c.in-Search.is
-
-pub returns-in-Broken : goal.returns-in-Broken
-returns-in-Broken c = broken_lists _ _ _ _ _ _ _ c.before_search.ensures c.in-Broken.is
-
-pub returns-in-Turned : goal.returns-in-Turned
-returns-in-Turned c = turned_lists _ _ _ _ _ _ c.before_search.ensures c.in-Turned.is
-
-pub returns-in-Search : goal.returns-in-Search
-returns-in-Search c = c.list_book.ensures
+pub returns-in_err-before_search : goal.returns-in_err-before_search
+returns-in_err-before_search c =
+    let p = err_from_is_err_and c.from_residual.result c.from_residual.ensures.1 in
+    rw (p.1, p.2) (refused_lists _ _ _ _ _ c.in_err-before_search.ensures)

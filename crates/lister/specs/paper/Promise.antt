@@ -1,16 +1,18 @@
 -- The lister's promise: its answer, every entry of the list and every number of the work area, on all inputs; and that what it lists is
 -- right by the meaning. Words in quotation marks are those of paper 01, 8.
 -- Assumes nothing.
-use Rattle.std.specs.Prelude.{ℕ, ◌-◌, ◌≡◌, List, ◌++◌, ltb, length, take, drop}
+use Rattle.std.specs.Prelude.{ℕ, ◌-◌, ◌≡◌, List, ◌++◌, ltb, length, take, drop, Result as Returned, Ok, Err}
 use Rattle.base.specs.paper.Bools.{choose}
 use Rattle.image.specs.paper.Book.{Book}
 use Rattle.image.specs.paper.Decode.{Decoded, accepted, refused, decode}
+use Rattle.image.specs.paper.Refusals.{number_of}
 use Rattle.sets.specs.paper.Kept.{zeros, longest}
 use Rattle.searching.specs.paper.Rules.{root, Outcome, finished, used_up, no_room, search_end}
 use Rattle.searching.specs.paper.Tree.{size}
 use Rattle.searching.specs.paper.Explanations.{Explanations}
-use Rattle.lister.specs.declared.Listing.{Listing}
-use Rattle.lister.specs.declared.Listing.TheVariants.{Listed, Broken, Refused}
+use Rattle.lister.specs.declared.Listed.{Listed as Found}
+use Rattle.lister.specs.declared.NoAnswer.{NoAnswer}
+use Rattle.lister.specs.declared.NoAnswer.TheVariants as none
 use Rattle.area.specs.paper.Work.{work_numbers}
 
 -- the largest budget
@@ -35,6 +37,17 @@ by_book (accepted b) room space budget =
 
 unfoldable pub result_of : List ℕ → ℕ → ℕ → ℕ → Result
 result_of image budget room space = by_book (decode image) room space budget
+
+pub data Listing : Type 0 where
+  Listed : (count nodes : ℕ) → Listing
+  Broken : (number place : ℕ) → Listing
+  Refused : (number nodes : ℕ) → Listing
+
+-- what `list` returns, as a listing
+abbrev pub listing : Returned Found NoAnswer → Listing
+listing (Ok l) = Listed l.count l.nodes
+listing (Err (none.Broken fault)) = Broken (number_of fault.refusal) fault.place
+listing (Err (none.Refused refusal n)) = Refused (number_of refusal) n
 
 -- the answer: the number of sets, then the nodes; or a refusal's number, then the place of an image's own, or the nodes
 abbrev pub answer_of : Result → Listing

@@ -5,8 +5,7 @@ use Rattle.std.specs.Prelude.{ℕ, ◌≤◌, ◌<◌, ◌≡◌, true, false, L
 use Rattle.base.specs.paper.Lists.{flat}
 use Rattle.image.specs.paper.Decode.{accepted, refused, decode}
 use Rattle.image.specs.paper.Spell.{encode}
-use Rattle.image.specs.declared.Writing.{Writing}
-use Rattle.image.specs.paper.Writing.{Ending, bytes, number, answer_of, room_of}
+use Rattle.image.specs.paper.Writing.{Writing, Ending, bytes, number, answer_of, room_of}
 use Rattle.spelling.specs.paper.Words.{ascii}
 use Rattle.spelling.specs.paper.Document.{Document}
 use Rattle.spelling.specs.paper.Spelt.{Spelt}

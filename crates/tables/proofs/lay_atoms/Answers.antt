@@ -1,6 +1,5 @@
 -- `tables::lay_atoms` meets its contract. Assumes nothing.
 use native.Mathlib.Omega.{arith}
-use mathlib.Core.Path.{◌∙◌}
 use Rattle.image.specs.Shown.{shown, shown_front}
 use Rattle.tables.specs.Filling.{front, atoms_laid}
 use Rattle.tables.proofs.lay_atoms.Goals as goal
@@ -21,9 +20,6 @@ lay_literals-requires-2 c =
     let f = front _ c.requires.0 in
     let atoms = c.atoms-atoms.ensures.0 in
     (omega (arith, atoms, c.abducibles-abducibles.ensures.0), omega (arith, atoms), omega (arith, c.requires.1, c.wipe.auto.work, c.lay_literals.ensures.size))
-
-pub shape_of-work : goal.shape_of-work
-shape_of-work c = c.lay_literals-2.ensures.size ∙ c.lay_literals.ensures.size ∙ c.wipe.auto.work
 
 pub returns : goal.returns
 returns c =

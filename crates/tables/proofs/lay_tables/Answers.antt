@@ -40,6 +40,3 @@ pub returns : goal.returns
 returns c =
     tables_filled _ _ c.requires _ c.clauses-clauses.ensures _ c.field_at-count.ensures.0 _ _ _ c.lay_clauses-place.ensures
     _ c.link_clauses.ensures _ c.field_at-many.ensures.0 _ c.lay_constraints.ensures
-
-pub shape_of-work : goal.shape_of-work
-shape_of-work c = (returns c).size

@@ -1,19 +1,20 @@
 -- `visit::pick` meets its contract. Assumes nothing.
 use native.Mathlib.Omega.{arith}
+use mathlib.Core.Path.{refl}
 use Rattle.visit.specs.Pick.{pick_place, picked_none, picked_ways, picked_success}
 use Rattle.visit.proofs.pick.Goals as goal
 
-pub word-a-requires : goal.word-a-requires
-word-a-requires c = let p = pick_place _ _ c.requires.0 c.requires.1 in omega (arith, p.0, p.1)
+pub offset_bounds-work-r : goal.offset_bounds-work-r
+offset_bounds-work-r c = omega (arith, (pick_place _ _ c.requires.0 c.requires.1).0)
 
-pub returns-then-a-eq-NO_LINK : goal.returns-then-a-eq-NO_LINK
-returns-then-a-eq-NO_LINK c = picked_none _ _ c.requires.0 c.requires.1 _ _ c.word-a.ensures.0 _ c.if-a-eq-NO_LINK.true c.in_state.ensures
+pub bounds-work-r : goal.bounds-work-r
+bounds-work-r c = let p = pick_place _ _ c.requires.0 c.requires.1 in omega (arith, p.0, p.1)
 
-pub returns-then-a-eq-NO_TASK : goal.returns-then-a-eq-NO_TASK
-returns-then-a-eq-NO_TASK c =
-    let last = c in
-    let p = last.requires in
-    picked_success _ _ p.0 p.1 _ _ last.word-a.ensures.0 _ _ last.if-a-eq-NO_TASK.true c.keep_success.ensures
+pub returns-in-0 : goal.returns-in-0
+returns-in-0 c = picked_none _ _ c.requires.0 c.requires.1 _ _ refl _ c.in-0.is refl
 
-pub returns : goal.returns
-returns c = picked_ways _ _ c.requires.0 c.requires.1 _ _ c.word-a.ensures.0 _ c.if-a-eq-NO_LINK.false c.if-a-eq-NO_TASK.false c.given.ensures
+pub returns-in-1 : goal.returns-in-1
+returns-in-1 c = picked_success _ _ c.requires.0 c.requires.1 _ _ refl _ _ c.in-1.is c.keep_success.ensures
+
+pub returns-in_default : goal.returns-in_default
+returns-in_default c = picked_ways _ _ c.requires.0 c.requires.1 _ _ refl _ (λ z. omega (arith, z)) (λ z. omega (arith, z)) refl

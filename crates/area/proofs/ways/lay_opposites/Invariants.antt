@@ -4,6 +4,3 @@ use Rattle.area.proofs.ways.lay_opposites.Given as given
 
 abbrev pub invariant-loop-i : given.invariant-loop-i
 invariant-loop-i l = OppositesLaying l.image l.initial.work l.start l.first l.count l.next l.work l.i l.link
-
-abbrev pub decreases-loop-i : given.decreases-loop-i
-decreases-loop-i l = l.i

@@ -1,35 +1,17 @@
--- `engine::deciding::in_some` meets its contract: what is left of the sets decides the test of them all.
--- Assumes nothing.
-use mathlib.Core.Path.{refl, sym, ◌∙◌}
-use native.Mathlib.Omega.{arith}
+-- `engine::deciding::in_some` meets its contract. Assumes nothing.
+use Rattle.std.proofs.Common.{◌≡◌, ℕ, Bool, List, [], ◌∷◌, ◌||◌, refl, ap, ◌∙◌, rules, tests}
+use Rattle.std.specs.List.{list_any}
+use Rattle.std.proofs.lemmas.Iterator.{YieldsList-from_slice}
+use Rattle.std.proofs.lemmas.Iterator.Search.{any_from_yields_List}
+use Rattle.base.specs.paper.Lists.{any}
 use Rattle.base.specs.paper.Members.{has}
-use Rattle.base.specs.Scans.{any_none, any_met, any_unmet}
 use Rattle.engine.proofs.deciding.in_some.Goals as goal
 
-pub loop-i-init : goal.loop-i-init
-loop-i-init c = (omega arith, refl)
+any_is : (t : ℕ → Bool) (l : List ℕ) → list_any t l ≡ any t l
+any_is t [] = refl
+any_is t (x ∷ l) = ap (λ (r : Bool). t x || r) (any_is t l)
 
-pub loop-i-preserved : goal.loop-i-preserved
-loop-i-preserved c =
-    let a = c.args in
-    let l = c.loop-i in (
-      omega arith,
-      l.invariant.1
-          ∙ any_unmet (λ s. has s a.hypothesis) a.sets.now l.i a.count (omega arith) (omega arith)
-          (sym c.is_in.ensures ∙ c.if-is_in.false),
-    )
-
-pub returns-then-i-count : goal.returns-then-i-count
-returns-then-i-count c =
-    let a = c.args in
-    let l = c.loop-i in
-    sym (l.invariant.1 ∙ any_none (λ s. has s a.hypothesis) a.sets.now l.i a.count c.if-i-count.true)
-
-pub returns-then-is_in : goal.returns-then-is_in
-returns-then-is_in c =
-    let a = c.args in
-    let l = c.loop-i in
-    sym
-    (l.invariant.1
-    ∙ any_met (λ s. has s a.hypothesis) a.sets.now l.i a.count (omega arith) (omega arith)
-    (sym c.is_in.ensures ∙ c.if-is_in.true))
+pub returns : goal.returns
+returns c =
+    let test : ℕ → Bool = λ s. has s c.args.hypothesis in
+    any_from_yields_List test _ _ _ c.any.ensures.ran (YieldsList-from_slice c.args.sets.now cc) (λ x b q k. search (rules, tests)) ∙ any_is test c.args.sets.now

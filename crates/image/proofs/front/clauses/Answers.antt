@@ -1,7 +1,6 @@
 -- `image::front::clauses` meets its contract. Assumes nothing.
 use mathlib.Core.Path.{ap}
 use Prim.Native.Nat.{ℕ, ◌+◌, ◌*◌}
-use borrow.Author.Rules.{rules}
 use Rattle.image.specs.Shown.{goal_at, clause_count_at}
 use Rattle.image.proofs.front.clauses.Goals as goal
 

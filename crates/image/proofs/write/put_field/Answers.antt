@@ -2,7 +2,6 @@
 use native.Mathlib.Omega.{arith}
 use lib.ListN.{length-set}
 use Rattle.image.specs.Laid.{laid_field}
-use borrow.Author.Rules.{rules}
 use Rattle.image.proofs.write.put_field.Goals as goal
 
 pub bounds-image-at-2 : goal.bounds-image-at-2

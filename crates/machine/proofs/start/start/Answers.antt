@@ -1,4 +1,5 @@
 -- `machine::start::start` meets its contract. Assumes nothing.
+use mathlib.Core.Path.{refl}
 use native.Mathlib.Omega.{arith}
 use Rattle.image.specs.Accepted.{within}
 use Rattle.image.specs.Shown.{shown, shown_front}
@@ -11,19 +12,13 @@ clauses-requires c = shown_front (shown _ _ c.requires.book)
 pub front-requires : goal.front-requires
 front-requires c = root_stands _ _ _ c.fill.ensures _ c.clauses.ensures _ c.root-root.ensures
 
-pub overflow_mul-hypothesis : goal.overflow_mul-hypothesis
-overflow_mul-hypothesis c =
+pub overflow_mul-result : goal.overflow_mul-result
+overflow_mul-result c =
     let p = c.requires in
-    omega (arith, known_with _ c.in-RootWith.is p.known, (within _ _ p.book).abducibles)
+    omega (arith, known_with _ c.in-Some.is p.known, (within _ _ p.book).abducibles)
 
-pub shape_of-work-in-Root : goal.shape_of-work-in-Root
-shape_of-work-in-Root c = c.fill.ensures.size
+pub returns-in-None : goal.returns-in-None
+returns-in-None c = started_root _ _ _ c.fill.ensures _ c.clauses.ensures _ c.root-root.ensures c.in-None.is c.front.ensures
 
-pub returns-in-Root : goal.returns-in-Root
-returns-in-Root c = started_root _ _ _ c.fill.ensures _ c.clauses.ensures _ c.root-root.ensures c.in-Root.is c.front.ensures
-
-pub shape_of-work-in-RootWith : goal.shape_of-work-in-RootWith
-shape_of-work-in-RootWith c = c.fill.ensures.size
-
-pub returns-in-RootWith : goal.returns-in-RootWith
-returns-in-RootWith c = started_with _ _ _ c.fill.ensures _ c.clauses.ensures _ c.root-root.ensures _ c.in-RootWith.is c.requires.known c.given.ensures
+pub returns-in-Some : goal.returns-in-Some
+returns-in-Some c = started_with _ _ _ c.fill.ensures _ c.clauses.ensures _ c.root-root.ensures _ c.in-Some.is c.requires.known refl

@@ -1,5 +1,4 @@
 -- `machine::steps::step` meets its contract: after each piece the step has come to a lower state. Assumes nothing.
-use mathlib.Core.Path.{◌∙◌}
 use Rattle.machine.specs.Steps.{searching_tasked, stepped_visit, stepped_somewhere, stepped_passes, stepped_placed, stepped_onward}
 use Rattle.machine.proofs.steps.step.Goals as goal
 
@@ -28,12 +27,6 @@ after_agenda-requires c =
     let returned = stepped_passes visited c.after_failure-returned.ensures in
     let chosen = stepped_passes returned c.after_ways-chosen.ensures in
     stepped_placed c.requires.searching (stepped_passes chosen c.after_list-entered.ensures)
-
-pub shape_of-sets : goal.shape_of-sets
-shape_of-sets c = c.visit-visited.auto.sets
-
-pub shape_of-work : goal.shape_of-work
-shape_of-work c = c.after_list-entered.auto.work ∙ c.after_ways-chosen.auto.work ∙ c.after_failure-returned.auto.work ∙ c.visit-visited.auto.work
 
 pub returns : goal.returns
 returns c =

@@ -1,2 +1,0 @@
--- The buffer that an image is taken into.
-pub mod Buffers

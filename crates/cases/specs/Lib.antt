@@ -1,2 +1,0 @@
--- The driver's own buffers.
-pub mod Buffers

@@ -1,2 +1,0 @@
--- The buffer that a file of groups is taken into.
-pub mod Buffers

@@ -1,2 +1,0 @@
--- The program's own buffers.
-pub mod Buffers

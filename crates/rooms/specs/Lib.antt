@@ -1,2 +1,0 @@
--- The programs' own buffers of bytes.
-pub mod Buffers
