@@ -150,7 +150,7 @@ def proofs(tree):
         for number, line in enumerate(text.splitlines(), 1):
             if re.search(r"\blet \w+ = \w+ in(\s|$)", line):
                 yield Place(file, number, line.strip())
-        if re.search(r"\b(Lts|Tie|Reads)\b.*\n?.*borrow|borrow\.\w+.*\{[^}]*\b(Lts|Tie|lts|tie)\b", text):
+        if re.search(r"^use \S+\.(Lts|Tie)\b", text, re.M):
             yield Place(file, 1, "cites the toolchain's place records")
 
 
