@@ -3,13 +3,13 @@
 use Prim.Native.Nat.{ℕ, zero, suc, ◌+◌, ◌-◌, ◌*◌, ◌/◌, ◌%◌, min, ◌≤◌, ◌<◌}
 use native.Mathlib.Omega.{arith}
 use Rattle.std.specs.Prelude.{◌≡◌, refl, Bool, true, false, ◌⊎◌, eqb, ltb, get_or, drop}
-use Rattle.std.proofs.Common.{sym, ap, ◌∙◌, inl, inr, ⊎_elim, eqb-true, lt-ltb, le-ltb, length-set, length-drop, length-append, get_or-drop, get_or-set_same, get_or-set_other, ext_get_or, get_or-append-add}
+use Rattle.std.proofs.Common.{sym, ap, ap₂, ◌∙◌, inl, inr, ⊎_elim, eqb-true, lt-ltb, le-ltb, length-set, length-drop, length-append, drop-cons, get_or-drop, get_or-set_same, get_or-set_other, ext_get_or, get_or-append-add}
 use Rattle.std.proofs.Math.Path.{subst}
-use mathlib.Core.List.{List, [], ◌∷◌, ◌++◌}
+use mathlib.Core.List.{List, [], ◌∷◌, ◌++◌, append_assoc}
 use Rattle.std.proofs.lemmas.Bool.{eqb-false}
 use Rattle.std.specs.Int.Bits.{bit_and, bit_xor, and_step, and_zero_r, xor_add_and}
 use Rattle.std.proofs.Math.ListN.{length, set, get_or-append}
-use Rattle.std.proofs.lemmas.List.{length-replicate, get_or-replicate}
+use Rattle.std.proofs.lemmas.List.{length-replicate, replicate-append-replicate, get_or-replicate, set_at}
 use Rattle.base.specs.paper.Bools.{choose}
 use Rattle.base.specs.Bools.{decide}
 use Rattle.base.specs.paper.Lists.{Every, flat}
@@ -24,7 +24,7 @@ use Rattle.image.specs.Finds.{length_lits}
 use Rattle.image.specs.Shown.{lits_at, lits_at_lem}
 use Rattle.sets.specs.paper.Kept.{zeros}
 use Rattle.searching.specs.paper.Rules.{opposite, opposites}
-use Rattle.area.specs.Area.{literal_numbers, no_list, places, joins, no_link, ways, way_width, trail, wanted_true, Long}
+use Rattle.area.specs.Area.{literal_numbers, no_list, places, joins, no_link, ways, way_width, trail, wanted_true, wanted_false, Long}
 use Rattle.area.specs.Ground.{Wanting, Listed, Chain, pos, neg}
 use Rattle.image.specs.Encode.{longest_image}
 
@@ -68,6 +68,14 @@ behind_stays w v n e h =
 
 -- ---- zeros in front
 
+pub wiping : (w : List ℕ) (i : ℕ) → i < length w → set (zeros i ++ drop i w) i 0 ≡ zeros (i + 1) ++ drop (i + 1) w
+wiping w i h =
+    let up : suc i ≡ i + 1 = omega arith in
+    ap (λ (l : List ℕ). set (zeros i ++ l) i 0) (drop-cons w i 0 h)
+    ∙ set_at (zeros i) (get_or w i 0) (drop (suc i) w) 0 i (length-replicate i 0)
+    ∙ sym (append_assoc (zeros i) (0 ∷ []) (drop (suc i) w))
+    ∙ ap₂ (λ (l m : List ℕ). l ++ m) (replicate-append-replicate i 1 0) (ap (λ (n : ℕ). drop n w) up)
+
 pub wiped_zero : (w : List ℕ) (n j : ℕ) → j < n → get_or (zeros n ++ drop n w) j 0 ≡ 0
 wiped_zero w n j h = get_or-append (zeros n) (drop n w) 0 j (omega (arith, length-replicate {A = ℕ} n 0)) ∙ get_or-replicate n j 0 0 h
 
@@ -91,6 +99,30 @@ pub record LiteralsLaid (work : List ℕ) (from to even : ℕ) (after : List ℕ
   pub size : length after ≡ length work
   pub stays : AllBut work after (wanted_true from) (wanted_true to)
   pub written : (p : ℕ) → from ≤ p → p < to → Wanting (of after) p even joins
+
+pub literals_start : (work : List ℕ) (from even : ℕ) → LiteralsLaid work from from even work
+literals_start work from even = record { size = refl; stays = λ j o. refl; written = λ p a b. absurd (omega arith) }
+
+pub literals_step : (work : List ℕ) (from to even : ℕ) (after : List ℕ) → from ≤ to → to < limits.atoms → Long work → LiteralsLaid work from to even after
+    → LiteralsLaid work from (to + 1) even (set (set after (wanted_true to) even) (wanted_false to) joins)
+literals_step work from to even after low few long l =
+    let at : ℕ = wanted_true to in
+    let fits : at + 2 ≤ length after = omega (arith, l.size) in
+    record {
+      size = pair_length after at even joins ∙ l.size;
+      stays = λ j o. pair_stays after at even joins j (λ a b. o (omega arith) (omega arith)) ∙ l.stays j (λ a b. o a (omega arith));
+      written = λ p a b. go fits p a b (eqb p to) refl;
+    }
+  where
+    go : wanted_true to + 2 ≤ length after → (p : ℕ) → from ≤ p → p < to + 1 → (t : Bool) → eqb p to ≡ t
+        → Wanting (of (set (set after (wanted_true to) even) (wanted_false to) joins)) p even joins
+    go fits p a b true e =
+        subst (λ (q : ℕ). Wanting (of (set (set after (wanted_true to) even) (wanted_false to) joins)) q even joins) (sym (eqb-true p to e))
+        (pair_first after (wanted_true to) even joins fits, pair_second after (wanted_true to) even joins fits)
+    go fits p a b false e =
+        let d : p ≡ to → ⊥ = eqb-false p to e in
+        let less : p < to = omega (arith, d) in
+        (pair_stays after (wanted_true to) even joins (wanted_true p) (λ x y. omega arith) ∙ (l.written p a less).0, pair_stays after (wanted_true to) even joins (wanted_false p) (λ x y. omega arith) ∙ (l.written p a less).1)
 
 -- ---- the opposite literal, as the code computes it
 

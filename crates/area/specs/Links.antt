@@ -94,6 +94,28 @@ module _ (after : List ℕ) (clause entry : ℕ) where
         set_here (set (set (set after (clause_way clause + 1) (get_or after entry 0)) (clause_record clause + 1) (shut (get_or after (entry + 1) 0))) entry (clause_way clause)) (entry + 1) (clause_record clause) (omega (arith, l3))
 
 module _ (work : List ℕ) (count : ℕ) (pre : Unlinked work count) where
+  pub linked_start : Linked work count work count
+  linked_start = record {
+    left = 0;
+    sum = omega arith;
+    size = refl;
+    ways = λ p q. refl;
+    records = λ p q. refl;
+    way = λ i m p q. absurd (omega arith);
+    recorded = λ i m p q. absurd (omega arith);
+    heads = λ i h. refl;
+    stays = λ j p q r. refl;
+  }
+
+  pub link_due : (after : List ℕ) (c : ℕ) → 1 ≤ c → Linked work count after c → LinkDue after (c - 1)
+  link_due after c h l =
+      let sum : c + l.left ≡ count = l.sum in
+      record {
+        few = omega (arith, pre.few);
+        long = omega (arith, l.size, pre.long);
+        small = omega (arith, l.heads (c - 1) (omega arith), pre.heads (c - 1) (omega arith));
+      }
+
   pub linked_step : (after : List ℕ) (d y : ℕ) → Linked work count after (d + 1) → y ≡ wanted_true (head_in work d) → Linked work count (linking after d y) d
   linked_step after d y l e = record {
     left = suc l.left;

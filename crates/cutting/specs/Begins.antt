@@ -1,20 +1,60 @@
 -- The test that a word stands at a place, a byte at a time; and the test that it is the whole run there.
 -- Assumes nothing.
-use Rattle.std.specs.Prelude.{ℕ, ◌+◌, ◌-◌, ◌≡◌, refl, Bool, true, false, ◌&&◌, length, nat_eq}
+use Rattle.std.specs.Prelude.{ℕ, ◌+◌, ◌-◌, ◌<◌, ◌≤◌, ◌≡◌, refl, Bool, true, false, ◌&&◌, length, get_or, nat_eq}
 use Rattle.std.specs.Cmp.Lexicographic.{pointwise}
 use native.Mathlib.Omega.{arith}
-use Rattle.std.proofs.Common.{sym, ◌∙◌, eqb-true, eq-eqb}
+use Rattle.std.proofs.Common.{sym, ◌∙◌, drop_of_length-le, eqb-true, eq-eqb, ne_eqb}
 use Rattle.std.proofs.Math.Path.{ap}
 use Rattle.std.proofs.Math.Seq.{take-append_seam}
 use mathlib.Core.List.{List, [], ◌∷◌, ◌++◌}
 use Rattle.std.proofs.Math.ListN.{take, drop}
 use Rattle.std.proofs.Math.Dec.{eqb}
 use Rattle.base.specs.Bools.{same_test}
+use Rattle.base.specs.Stores.{next_all}
 use Rattle.spelling.specs.paper.Words.{Word, in_name, same}
 use Rattle.spelling.specs.Cut.{span, begins}
 use Rattle.spelling.specs.Cutting.{span_whole}
 use Rattle.spelling.specs.Table.{name_at}
 use Rattle.spelling.specs.WordLaws.{same_true}
+
+-- a word that is longer than the text
+pub begins_short : (w t : List ℕ) → length t < length w → begins w t ≡ false
+unfolding begins
+begins_short [] t h = absurd (omega arith)
+begins_short (a ∷ w) [] h = refl
+begins_short (a ∷ w) (b ∷ t) h = go (eqb a b) (begins_short w t (omega arith))
+  where
+    go : (q : Bool) → begins w t ≡ false → (q && begins w t) ≡ false
+    go true e = e
+    go false e = refl
+
+module _ (w t : List ℕ) (at : ℕ) where
+  -- what is left of the word behind its first i bytes
+  abbrev pub left : ℕ → Bool
+  left i = begins (drop i w) (drop (at + i) t)
+
+  pub begins_start : begins w (drop at t) ≡ left 0
+  begins_start = let none : at ≡ at + 0 = omega arith in ap (λ (n : ℕ). begins w (drop n t)) none
+
+  module _ (i : ℕ) where
+    pub begins_over : length w ≤ i → left i ≡ true
+    unfolding begins
+    begins_over h = ap (λ (v : List ℕ). begins v (drop (at + i) t)) (drop_of_length-le w h)
+
+    module _ (h : i < length w) (k : at + i < length t) where
+      begins_next : left i ≡ (eqb (get_or w i 0) (get_or t (at + i) 0) && left (i + 1))
+      unfolding begins
+      begins_next =
+          let one : at + i + 1 ≡ at + (i + 1) = omega arith in
+          ap (λ (v : List ℕ). begins v (drop (at + i) t)) (next_all w i h)
+          ∙ ap (begins (get_or w i 0 ∷ drop (i + 1) w)) (next_all t (at + i) k)
+          ∙ ap (λ (n : ℕ). eqb (get_or w i 0) (get_or t (at + i) 0) && begins (drop (i + 1) w) (drop n t)) one
+
+      pub begins_met : get_or t (at + i) 0 ≡ get_or w i 0 → left i ≡ left (i + 1)
+      begins_met e = begins_next ∙ ap (λ (q : Bool). q && left (i + 1)) (eq-eqb _ _ (sym e))
+
+      pub begins_unmet : (get_or t (at + i) 0 ≡ get_or w i 0 → ⊥) → left i ≡ false
+      begins_unmet e = begins_next ∙ ap (λ (q : Bool). q && left (i + 1)) (ne_eqb _ _ (λ p. e (sym p)))
 
 -- as the library's tests have it
 pub begins_pointwise : (w t : List ℕ) → begins w t ≡ pointwise nat_eq w (take (length w) t)

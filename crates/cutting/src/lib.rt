@@ -56,7 +56,7 @@ pub fn blanks_end(text: &[u8], at: usize) -> usize
 }
 
 // Whether a word stands at a place.
-fn begins(text: &[u8], at: usize, word: &[u8]) -> bool
+pub fn begins(text: &[u8], at: usize, word: &[u8]) -> bool
     requires { at ≤ length text.now }
     ensures { result ≡ begins word.now (drop at text.now) }
 {

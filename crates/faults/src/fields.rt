@@ -34,7 +34,7 @@ fn take<F: FnOnce(u32) -> Result<(), Refusal>>(
 }
 
 // How many bytes there are up to `end`, behind the field at this place.
-fn left_behind(end: usize, at: usize) -> usize
+pub fn left_behind(end: usize, at: usize) -> usize
     ensures { result ≡ end - (at + 2) }
 {
     end.saturating_sub(at).saturating_sub(2)

@@ -34,7 +34,8 @@ pub struct Group<'a> {
     ghost formed: { well_formed bytes.now ≡ true },
 }
 
-fn is_well_formed(bytes: &[u8]) -> bool
+// Whether the record is one.
+pub fn is_well_formed(bytes: &[u8]) -> bool
     ensures { result ≡ well_formed bytes.now }
 {
     if bytes.len() < NUMBER {

@@ -26,6 +26,13 @@ pub named_body : (ls : List Lit) (q : ℕ) → named_in (map (λ (l : Lit). l.at
 named_body [] q = refl
 named_body (l ∷ ls) q = ap (λ (t : Bool). eqb l.atom q || t) (named_body ls q)
 
+-- an atom of the body is marked: the rest of the body is left
+pub body_next : (s t r : Bool) → ((t || s) || r) ≡ (s || (t || r))
+body_next true true r = refl
+body_next true false r = refl
+body_next false true r = refl
+body_next false false r = refl
+
 -- a body with no more atoms
 pub body_over : (s : Bool) → s ≡ (s || false)
 body_over true = refl
@@ -89,7 +96,7 @@ bodied_long c h = go c.body h
     go [] h = absurd (omega arith)
     go (l ∷ ls) h = refl
 
-fact_none : (c : Clause) → length c.body ≡ 0 → c.body ≡ []
+pub fact_none : (c : Clause) → length c.body ≡ 0 → c.body ≡ []
 fact_none c e = go c.body e
   where
     go : (ls : List Lit) → length ls ≡ 0 → ls ≡ []

@@ -139,6 +139,15 @@ unfolding lits_at
 lits_long s at zero = refl
 lits_long s at (suc n) = ap suc (lits_long s (at + 2) n)
 
+-- the literals left at a place of a part of n bytes
+pub lits_next : (s : List ℕ) (n at : ℕ) → at + 2 ≤ n → lits_at s at ((n - at) / 2) ≡ lit_of (field_at s at) ∷ lits_at s (at + 2) ((n - (at + 2)) / 2)
+unfolding lits_at
+lits_next s n at h = let e : (n - at) / 2 ≡ suc ((n - (at + 2)) / 2) = omega arith in ap (lits_at s at) e
+
+pub lits_over : (s : List ℕ) (n at : ℕ) → n ≤ at + 1 → lits_at s at ((n - at) / 2) ≡ []
+unfolding lits_at
+lits_over s n at h = let e : (n - at) / 2 ≡ 0 = omega arith in ap (lits_at s at) e
+
 -- the first literal, and the rest
 pub lits_first : (s : List ℕ) → 2 ≤ length s → lits_in s ≡ lit_of (field_at s 0) ∷ lits_in (drop 2 s)
 unfolding lits_at
@@ -338,6 +347,10 @@ pub found_ready : (s : List ℕ) (b : Book) (next : ℕ) → whole s limits atom
 found_ready s b next e =
     let w = whole_found s limits atoms_at b next e in
     record { shown = words_shown s b w.0.stands (sym w.1 ∙ w.0.behind); within = w.0.is_fine }
+
+module _ (image : List ℕ) (book : Book) (ready : Ready image book) (at count : ℕ) (is_at : at ≡ clause_count_at image) (is-count : count ≡ field_at image at) where
+  pub ready_count : count ≡ length book.clauses
+  ready_count = is-count ∙ ap (field_at image) is_at ∙ ready.shown.clauses
 
 module _ (s : List ℕ) (b : Book) (ready : Ready s b) where
   ready_fine : Every (λ (c : Clause). fine b.atoms c ≡ true) b.clauses

@@ -16,8 +16,9 @@ use Rattle.memory.specs.States.{rank, rank_tells, TASK, AGENDA, LIST, WAY, FAILE
 use Rattle.memory.specs.Machine.{node_of, literal, record_at, last, Holds, HandIn, in_hand}
 use Rattle.memory.specs.Pieces.{in_state, counting}
 use Rattle.visit.specs.Node.{counting_holds}
-use Rattle.memory.specs.Agreed.{Moved, Moves, Backed, back_to, over, Visited, Tasked, Success, SuccessKept, inserted, full, Went, visits}
-use Rattle.machine.specs.Agreed.{Onward, Placed, Searching, Ending, all_visited, out_of_budget, out_of_room, Course, goes_on, ended, Somewhere, Passes, Stepped, ahead}
+use Rattle.memory.specs.Agreed.{Standing, Moved, StandingIn, Moves, Backed, back_to, over, Visited, Tasked, Success, SuccessKept, inserted, full, Went, visits}
+use Rattle.machine.specs.Agreed.{Onward, Placed, Searching, Ending, all_visited, out_of_budget, out_of_room, Course, goes_on, ended, Somewhere, Passes, Stepped, ahead, Tells}
+use Rattle.machine.specs.declared.Ended.TheVariants.{Finished, UsedUp, NoRoom}
 
 -- ---- the rules' search, one node at a time
 
@@ -77,6 +78,14 @@ moved_on image budget sets work run work' run' n m h = record {
       ∙ ap₂ (λ (n c : ℕ). Rules.run h.b (length sets) (budget - n) h.all (take c sets) n) (sym m.nodes) (sym m.count);
 }
 
+-- the state that a piece asks for
+pub somewhere_stands : (work : List ℕ) (run : Run) (n : State) → Passing n → Somewhere work run n → run.state ≡ n → StandingIn work run n
+somewhere_stands work run n h p e = go p.state
+  where
+    go : Course p.image p.budget p.outcome p.sets work run n p.low → StandingIn work run n
+    go (goes_on x i k) = (p.image, record { b = x.b; all = x.all; holds = x.holds; state = e })
+    go (ended x k) = absurd (not_ended p.sets run n x e h)
+
 pub passes_moved : (work : List ℕ) (run : Run) (m : State) (work' : List ℕ) (run' : Run) (n : State) → Passing m → run.state ≡ m → Moves work run work' run' n → Passes work run m work' run' n
 passes_moved work run m work' run' n h e f = record {
   next = λ image budget outcome sets low x. go image budget sets low x;
@@ -87,6 +96,14 @@ passes_moved work run m work' run' n h e f = record {
         → Course image budget outcome sets work' run' n low
     go image budget sets low (goes_on x i k) = goes_on (moved_on image budget sets work run work' run' n (f image) x) (f image).state (omega (arith, (f image).nodes))
     go image budget sets low (ended x k) = absurd (not_ended sets run m x e h)
+
+pub passes_same : (work : List ℕ) (run : Run) (m n : State) → rank m ≡ suc (rank n) → (run.state ≡ m → ⊥) → Passes work run m work run n
+passes_same work run m n j e = record { next = λ image budget outcome sets low x. go image budget sets low x; later = refl }
+  where
+    go : {outcome : Outcome} (image : List ℕ) (budget : ℕ) (sets : List ℕ) (low : ℕ) → Course image budget outcome sets work run m low
+        → Course image budget outcome sets work run n low
+    go image budget sets low (goes_on x i k) = let other : rank run.state ≡ rank m → ⊥ = λ z. e (rank_tells run.state m z) in goes_on x (omega (arith, other)) k
+    go image budget sets low (ended x k) = ended x k
 
 -- a way more for `back`: nothing is left
 pub passes_backed : (work : List ℕ) (run : Run) (work' : List ℕ) (run' : Run) → run.state ≡ FAILED → Backed work run work' run' → Passes work run FAILED work' run' WAY
@@ -274,6 +291,13 @@ module _ {image : List ℕ} {budget : ℕ} {sets work : List ℕ} {run : Run} wh
       → Onward image work' run' run'' → Stepped image budget sets work run after work' run'' TASK
   stepped_onward {after} p x = record { next = λ outcome h. x.next budget outcome after (suc run.nodes) (p.next outcome h); later = p.later }
 
+pub placed_standing : (image work : List ℕ) (run : Run) → Placed image work run AGENDA → run.state ≡ AGENDA → Standing image work run AGENDA
+placed_standing image work run p e = go p.state
+  where
+    go : Course image p.budget p.outcome p.sets work run AGENDA p.low → Standing image work run AGENDA
+    go (goes_on x i k) = record { b = x.b; all = x.all; holds = x.holds; state = e }
+    go (ended x k) = absurd (not_ended p.sets run AGENDA x e (omega arith, omega arith))
+
 pub onward_moved : (image work : List ℕ) (run run' : Run) → run.state ≡ AGENDA → Moved image work run work run' TASK → Onward image work run run'
 onward_moved image work run run' e m = record { next = λ budget outcome sets low x. go budget sets low x }
   where
@@ -294,6 +318,22 @@ onward_same image work run e = record { next = λ budget outcome sets low x. go 
     go budget sets low (ended x k) = ended x k
 
 -- ---- the whole
+
+-- an end is told by a run's state
+pub tells_over : (run : Run) → run.state ≡ OVER → Tells run (Finished run.count run.nodes)
+tells_over run e outcome sets (all_visited i l o) = record { is = o; few = l }
+tells_over run e outcome sets (out_of_budget i o) = absurd (omega (arith, ap rank (sym i ∙ e)))
+tells_over run e outcome sets (out_of_room i o) = absurd (omega (arith, ap rank (sym i ∙ e)))
+
+pub tells_spent : (run : Run) → run.state ≡ SPENT → Tells run (UsedUp run.nodes)
+tells_spent run e outcome sets (all_visited i l o) = absurd (omega (arith, ap rank (sym i ∙ e)))
+tells_spent run e outcome sets (out_of_budget i o) = record { is = o; few = omega arith }
+tells_spent run e outcome sets (out_of_room i o) = absurd (omega (arith, ap rank (sym i ∙ e)))
+
+pub tells_full : (run : Run) → (run.state ≡ OVER → ⊥) → (run.state ≡ SPENT → ⊥) → Tells run (NoRoom run.nodes)
+tells_full run d e outcome sets (all_visited i l o) = absurd (d i)
+tells_full run d e outcome sets (out_of_budget i o) = absurd (e i)
+tells_full run d e outcome sets (out_of_room i o) = record { is = o; few = omega arith }
 
 module _ {image : List ℕ} {budget : ℕ} {outcome : Outcome} where
   pub still_searching : {sets work : List ℕ} {run : Run} {low : ℕ} → Course image budget outcome sets work run TASK low → run.state ≡ TASK

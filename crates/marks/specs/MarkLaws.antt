@@ -62,7 +62,7 @@ mark_none p = ap (λ (n : ℕ). has n (p % set_bits)) (zeros (p / set_bits)) ∙
     zeros (suc (suc (suc (suc w)))) = refl
 
 -- where nothing is marked, a word is 0
-none_mark : (ws : List ℕ) (which : ℕ) → get_or ws which 0 < 2 ^ set_bits → ((p : ℕ) → mark_in ws p ≡ false) → get_or ws which 0 ≡ 0
+pub none_mark : (ws : List ℕ) (which : ℕ) → get_or ws which 0 < 2 ^ set_bits → ((p : ℕ) → mark_in ws p ≡ false) → get_or ws which 0 ≡ 0
 unfolding mark_in
 none_mark ws which fits none = same_members (get_or ws which 0) 0 (λ j. ⊎_elim (λ h. clash h (off j h)) (λ h. h ∙ sym (has_none j)) (decide (has (get_or ws which 0) j)))
   where

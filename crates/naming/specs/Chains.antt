@@ -231,6 +231,10 @@ unknown table w k v m e =
     let s = map_∈ name_of table m in
     clash (some_any (λ (a : Atom). same w a.name) table (s.0, s.1, subst (λ (u : Word). same u s.0.name ≡ true) (sym s.2 ∙ e) (same_refl s.0.name))) k
 
+pub bit_most : (t : Bool) → bit t ≤ 1
+bit_most true = omega arith
+bit_most false = omega arith
+
 -- as the library numbers a test
 pub bit_from : (t : Bool) → from_bool t ≡ bit t
 bit_from true = refl

@@ -236,6 +236,16 @@ table_same image b work after i t p q r f = record {
 }
 
 module _ (image work : List ℕ) (start count : ℕ) (due : ClausesDue image work start count) where
+  pub clauses_start : ClausesLaid image work work 0 start (clause_way count)
+  clauses_start = record {
+    place = due.place;
+    way_is = omega (arith, due.counted, sum_none body_count (book_in image).clauses);
+    most = omega arith;
+    size = refl;
+    tables = λ i h. absurd (omega arith);
+    stays = λ j p q. refl;
+  }
+
   pub clauses_due : (after : List ℕ) (c at way : ℕ) → c < count → ClausesLaid image work after c at way → ClauseDue image after c at way
   clauses_due after c at way h l = record {
     book = due.book;

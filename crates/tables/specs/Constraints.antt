@@ -263,6 +263,19 @@ module _ (image work : List ℕ) (start base many : ℕ) (due : ConstraintsDue i
   above : ways ≤ base
   above = omega (arith, due.way_is)
 
+  pub constraints_start : ConstraintsLaying image work base work 0 start base
+  constraints_start = record {
+    place = due.place;
+    low = omega arith;
+    way_most = omega (arith, due.way_is);
+    most = omega arith;
+    size = refl;
+    rows = λ i h. absurd (omega arith);
+    links = λ i h. absurd (omega arith);
+    cells = λ i h. absurd (omega arith);
+    stays = λ j p q. refl;
+  }
+
   pub constraints_due : (after : List ℕ) (k at way : ℕ) → k < many → ConstraintsLaying image work base after k at way → ConstraintDue image after k at way
   constraints_due after k at way h l = record {
     book = due.book;

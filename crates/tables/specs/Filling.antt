@@ -386,3 +386,11 @@ module _ (image work : List ℕ) (ready : Ready image work) (clauses : ℕ) (is-
             filled image work after₁ after₂ after ready at way (subst (λ (k : ℕ). ClausesLaid image work after₁ k at way) counted laid) (subst (λ (k : ℕ). Linked after₁ k after₂ 0) counted linked) way way_is constrained
 
 -- ---- atoms and tables
+
+pub all_filled : (image u work after : List ℕ) → AtomsLaid image u work → Filled image work after → Filled image u after
+all_filled image u work after a f = record {
+  size = f.size ∙ a.size;
+  grounded = f.grounded;
+  area = f.area;
+  stays = λ j h. f.stays j h ∙ a.stays j (omega arith);
+}

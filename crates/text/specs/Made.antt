@@ -97,6 +97,15 @@ module _ (text : List ℕ) (d : Document) (c : Clear text d) where
       go x q (head h) = let y : ◌≡◌ {A = ℕ} 0 1 = cc in absurd (omega arith)
       go x q (loop h) = let y : ◌≡◌ {A = ℕ} 0 1 = cc in absurd (omega arith)
 
+  pub refused_some : (n at : ℕ) → Reads (image_of d) (Refused n at) → n ≡ 0 → ⊥
+  refused_some n at r = go (decode (image_of d)) r.answer (text_only text d c.says)
+    where
+      go : (x : Decoded) → Refused n at ≡ reading_of x → Outcome (book_of d) x → n ≡ 0 → ⊥
+      go x q back z = let y : ◌≡◌ {A = ℕ} 0 1 = cc in absurd (omega arith)
+      go x q (limit h) z = let y : n ≡ 5 = cc in absurd (omega arith)
+      go x q (head h) z = let y : n ≡ 7 = cc in absurd (omega arith)
+      go x q (loop h) z = let y : n ≡ 9 = cc in absurd (omega arith)
+
 -- ---- the call's promise
 
 module _ (what : Document → List ℕ) (text room : List ℕ) where

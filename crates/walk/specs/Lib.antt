@@ -2,5 +2,6 @@
 pub mod Each
 pub mod Passing
 pub mod Seeing
+pub mod Pouring
 pub mod Seen
 pub mod SeenBook
