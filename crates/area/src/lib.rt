@@ -71,6 +71,10 @@ pub const TRAIL: usize = WAYS
 // Frames: the trail's end, the set in two halves, the agenda, and the next way.
 pub const FRAME_WIDTH: usize = 7;
 
+pub const MOST_FRAMES: usize = MOST_CONSTRAINTS as usize
+    + MOST_ATOMS as usize
+    + MOST_CLAUSES as usize;
+
 pub const FRAMES: usize = TRAIL + TRAIL_WIDTH * MOST_ATOMS as usize;
 
 // 21: "the work area has fewer than 16,384 numbers of 32 bits" (paper 01, 8.1)
