@@ -28,6 +28,11 @@ lits_in s = lits_at s 0 (length s / 2)
 abbrev pub clause_in : List ℕ → Clause
 clause_in part = record { head = field_at part 0; body = lits_in (drop 2 part) }
 
+-- all atoms of a clause are below the most there can be
+pub record Small (c : Clause) : Type 0 where
+  pub head : c.head < limits.atoms
+  pub body : Every (λ (l : Lit). l.atom < limits.atoms) c.body
+
 -- all atoms of literals, and of a clause, are below a number
 abbrev pub below_all : ℕ → List Lit → Bool
 below_all atoms ls = all (λ (l : Lit). ltb l.atom atoms) ls
@@ -185,6 +190,20 @@ below_atom atoms s a rest h e = go (lits_in s) h e
     go [] h e = let none : 0 ≡ suc (length rest) = ap length e in absurd (omega arith)
     go (l ∷ ls) h e = let same : l.atom ≡ a = ap (λ (xs : List ℕ). get_or xs 0 0) e in omega (arith, ltb-true l.atom atoms (both_left _ _ h))
 
+-- a last byte that stands alone is no field
+pub whole_fields : (part : List ℕ) → 2 ≤ length part → clause_in (take (length part / 2 * 2) part) ≡ clause_in part
+whole_fields part some =
+    let n : ℕ = length part / 2 * 2 in
+    let r : List ℕ = drop 2 part in
+    let m : ℕ = length r / 2 * 2 in
+    let e : n ≡ 2 + m = omega (arith, length-drop 2 part) in
+    let long : length (take m r) / 2 ≡ length r / 2 = omega (arith, length-take m r) in
+    let body : lits_in (drop 2 (take n part)) ≡ lits_in r =
+    ap lits_in (ap (λ (k : ℕ). drop 2 (take k part)) e ∙ drop-take 2 m part)
+    ∙ ap (lits_at (take m r) 0) long
+    ∙ take_lits r m 0 (length r / 2) (omega arith) in
+    λ i. record { head = take_field part n 0 (omega arith) i; body = body i }
+
 -- how many bytes a clause's record has
 pub part_long : (part : List ℕ) → 2 ≤ length part → length part % 2 ≡ 0 → 2 * length (of_clause (clause_in part)) ≡ length part + 2
 part_long part some even =
@@ -328,6 +347,11 @@ recorded_known atoms s n most h =
       bodies =
           λ c m l k. ltb-true l.atom atoms (all_every (λ (l : Lit). ltb l.atom atoms) c.body (fine_body atoms c (each_fine atoms s n h c m)) l k);
     }
+
+pub small_fine : (c : Clause) → Small c → fine limits.atoms c ≡ true
+unfolding fine
+small_fine c h =
+    both _ _ (lt-ltb _ _ h.head) (every_all (λ (l : Lit). ltb l.atom limits.atoms) c.body (λ l k. lt-ltb l.atom limits.atoms (h.body l k)))
 
 -- what is below a number is below a greater one
 pub fine_more : (few more : ℕ) → few ≤ more → (c : Clause) → fine few c ≡ true → fine more c ≡ true

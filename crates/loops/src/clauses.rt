@@ -1,8 +1,10 @@
 // A book's clauses as their records stand in the image, one behind the other; one clause; and the atoms of its body.
 
-ghost use Rattle.std.specs.Prelude.{◌≡◌, true, ◌%◌, ◌≤◌, ◌<◌, length};
+ghost use Rattle.std.specs.Prelude.{ℕ, ◌≡◌, true, ◌||◌, ◌%◌, ◌≤◌, ◌<◌, length};
 ghost use Rattle.image.specs.paper.Faults.{limits};
-ghost use Rattle.loops.specs.Records.{clause_in, lits_in, recorded, fine, below_all};
+ghost use Rattle.marks.specs.Marked.{marked};
+ghost use Rattle.loops.specs.Records.{clause_in, lits_in, recorded, fine, below_all, Small};
+ghost use Rattle.loops.specs.Naming.{names};
 
 use image::{fields, front};
 use marks::Marks;
@@ -149,4 +151,15 @@ impl<'a> Iterator for Atoms<'a> {
         self.rest = &self.rest[2..];
         Some(literal / 2)
     }
+}
+
+// Marks the atoms in the body of one clause, lent from its head to its record's end; a last byte that stands alone is no field.
+pub fn mark_body(part: &[u8], already: Marks) -> Marks
+    requires { (2 ≤ length part.now) × Small (clause_in part.now) }
+    ensures { (q : ℕ) → marked result q ≡ (marked already q || names (clause_in part.now) q) }
+{
+    let mut all = already;
+    let fields = &part[..part.len() / 2 * 2];
+    Record { part: fields }.mark_body(&mut all);
+    all
 }

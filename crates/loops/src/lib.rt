@@ -17,6 +17,7 @@ ghost use Rattle.loops.specs.Order.{descends, late};
 ghost use Rattle.loops.specs.Rounds.{round};
 
 use clauses::Clauses;
+pub use clauses::mark_body;
 use marks::Marks;
 
 pub mod clauses;

@@ -43,6 +43,20 @@ pub fn take_whole(image: &[u8]) -> Result<(), Fault>
     Ok(())
 }
 
+// Where a fault of the image's front stands, by its number.
+#[tactic(auto, using(std::proofs::lemmas::Bool::Decides::nat_tests), unfolding(image::specs::paper::Decode::front_place))]
+pub fn front_place(image: &[u8], number: u8) -> usize
+    ensures { result ≡ front_place image.now number }
+{
+    if number == Refusal::ShortImage.number() {
+        return image.len();
+    }
+    if number == Refusal::Version.number() {
+        return front::VERSION_AT;
+    }
+    front::LENGTH
+}
+
 // Version and length: the image's front, up to A.
 #[tactic(auto, using(std::proofs::lemmas::Bool::Decides::nat_tests), unfolding(image::specs::paper::Decode::wrong_front, image::specs::paper::Decode::front_place, image::specs::paper::Decode::length_field))]
 pub fn take_front(image: &[u8]) -> Result<(), Fault>

@@ -5,7 +5,7 @@ ghost use Rattle.std.proofs.Math.Seq.{slice};
 ghost use Rattle.image.specs.paper.Spell.{of_record};
 ghost use Rattle.writer.specs.Fields.{number_in, is_end, ways_of, inside_of, starts as starts_with, parts_of, statements_of};
 ghost use Rattle.writer.specs.Wrote.{Wrote};
-ghost use Rattle.writer.specs.Due.{stop_of, parts_from};
+ghost use Rattle.writer.specs.Due.{Statements, stop_of, parts_from};
 ghost use Rattle.writer.specs.Kinds.{first_end};
 
 use super::document::Document;
@@ -39,12 +39,34 @@ fn is_end(code: u16) -> bool
     (SEMICOLON..=ARROW).contains(&code)
 }
 
-// Whether a record of this kind starts with a part, by the code before it and the one at its end.
+// Whether a record whose first part ends so starts with a part, by the code before it and the one at its end.
 #[tactic(auto, unfolding(crate::specs::Fields::starts))]
-fn starts(kind: Kind, last: u16, end: u16) -> bool
-    ensures { result ≡ starts_with (first_end kind) last end }
+fn starts(kind: u16, last: u16, end: u16) -> bool
+    ensures { result ≡ starts_with kind last end }
 {
-    last == DOT && end == kind.first_end()
+    last == DOT && end == kind
+}
+
+// The records whose first part ends with this code, with their count.
+pub fn write_statements(
+    codes: &[u16],
+    goal: usize,
+    numbers: &[u16],
+    kind: u16,
+    image: &mut [u8],
+    at: usize,
+) -> usize
+    requires { Statements codes.now goal numbers.now × (at + 2 * length (statements_of (number_in numbers.now) kind (parts_of (take goal codes.now))) ≤ length image.old) }
+    ensures { Wrote (statements_of (number_in numbers.now) kind (parts_of (take goal codes.now))) image.old at image.new result }
+{
+    let document = Document {
+        codes,
+        goal,
+        numbers,
+        atoms: 0,
+        abducibles: 0,
+    };
+    document.write_records(kind, image, at)
 }
 
 impl<'a> Document<'a> {
@@ -80,23 +102,21 @@ impl<'a> Document<'a> {
     }
 
     // The inside of a record whose first part goes from `from` to `to`.
-    fn write_inside(&self, kind: Kind, from: usize, to: usize, image: &mut [u8], at: usize) -> usize
-        requires { (from ≤ to) × (to < self.now.goal) × (at + 2 * length (inside_of (number_in self.now.numbers.now) (first_end kind) (slice from to self.now.codes.now) (parts_from self.now.codes.now (to + 1) self.now.goal)) ≤ length image.old) }
-        ensures { Wrote (inside_of (number_in self.now.numbers.now) (first_end kind) (slice from to self.now.codes.now) (parts_from self.now.codes.now (to + 1) self.now.goal)) image.old at image.new result }
+    fn write_inside(&self, kind: u16, from: usize, to: usize, image: &mut [u8], at: usize) -> usize
+        requires { (from ≤ to) × (to < self.now.goal) × (at + 2 * length (inside_of (number_in self.now.numbers.now) kind (slice from to self.now.codes.now) (parts_from self.now.codes.now (to + 1) self.now.goal)) ≤ length image.old) }
+        ensures { Wrote (inside_of (number_in self.now.numbers.now) kind (slice from to self.now.codes.now) (parts_from self.now.codes.now (to + 1) self.now.goal)) image.old at image.new result }
     {
         let first = &self.codes[from..to];
-        match kind {
-            Kind::Clause => write_names(first, self.numbers, HEAD, image, at),
-            Kind::Constraint => {
-                let ways = write_counted(first, self.numbers, image, at);
-                self.write_ways(to + 1, image, ways)
-            }
+        if kind == DOT {
+            return write_names(first, self.numbers, HEAD, image, at);
         }
+        let ways = write_counted(first, self.numbers, image, at);
+        self.write_ways(to + 1, image, ways)
     }
 
-    fn write_record(&self, kind: Kind, from: usize, to: usize, image: &mut [u8], at: usize) -> usize
-        requires { (from ≤ to) × (to < self.now.goal) × (at + 2 * length (of_record (inside_of (number_in self.now.numbers.now) (first_end kind) (slice from to self.now.codes.now) (parts_from self.now.codes.now (to + 1) self.now.goal))) ≤ length image.old) }
-        ensures { Wrote (of_record (inside_of (number_in self.now.numbers.now) (first_end kind) (slice from to self.now.codes.now) (parts_from self.now.codes.now (to + 1) self.now.goal))) image.old at image.new result }
+    fn write_record(&self, kind: u16, from: usize, to: usize, image: &mut [u8], at: usize) -> usize
+        requires { (from ≤ to) × (to < self.now.goal) × (at + 2 * length (of_record (inside_of (number_in self.now.numbers.now) kind (slice from to self.now.codes.now) (parts_from self.now.codes.now (to + 1) self.now.goal))) ≤ length image.old) }
+        ensures { Wrote (of_record (inside_of (number_in self.now.numbers.now) kind (slice from to self.now.codes.now) (parts_from self.now.codes.now (to + 1) self.now.goal))) image.old at image.new result }
     {
         let first = at + 2;
         let end = self.write_inside(kind, from, to, image, first);
@@ -104,10 +124,10 @@ impl<'a> Document<'a> {
         end
     }
 
-    // The records of one kind, with their count.
-    pub fn write_statements(&self, kind: Kind, image: &mut [u8], at: usize) -> usize
-        requires { at + 2 * length (statements_of (number_in self.now.numbers.now) (first_end kind) (parts_of (take self.now.goal self.now.codes.now))) ≤ length image.old }
-        ensures { Wrote (statements_of (number_in self.now.numbers.now) (first_end kind) (parts_of (take self.now.goal self.now.codes.now))) image.old at image.new result }
+    // The records whose first part ends with this code, with their count.
+    fn write_records(&self, kind: u16, image: &mut [u8], at: usize) -> usize
+        requires { at + 2 * length (statements_of (number_in self.now.numbers.now) kind (parts_of (take self.now.goal self.now.codes.now))) ≤ length image.old }
+        ensures { Wrote (statements_of (number_in self.now.numbers.now) kind (parts_of (take self.now.goal self.now.codes.now))) image.old at image.new result }
     {
         let mut i = 0;
         let mut last = DOT;
@@ -127,5 +147,13 @@ impl<'a> Document<'a> {
         }
         put_field(image, at, count);
         end
+    }
+
+    // The records of one kind, with their count.
+    pub fn write_statements(&self, kind: Kind, image: &mut [u8], at: usize) -> usize
+        requires { at + 2 * length (statements_of (number_in self.now.numbers.now) (first_end kind) (parts_of (take self.now.goal self.now.codes.now))) ≤ length image.old }
+        ensures { Wrote (statements_of (number_in self.now.numbers.now) (first_end kind) (parts_of (take self.now.goal self.now.codes.now))) image.old at image.new result }
+    {
+        self.write_records(kind.first_end(), image, at)
     }
 }

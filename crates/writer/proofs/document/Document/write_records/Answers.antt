@@ -1,9 +1,9 @@
--- `writer::document::Document::write_statements` meets its contract. Assumes nothing.
+-- `writer::document::Document::write_records` meets its contract. Assumes nothing.
 use Rattle.std.specs.Prelude.{◌≤◌, ◌<◌}
 use Rattle.std.proofs.Common.{arith, sym, ◌∙◌}
 use Rattle.writer.specs.Records.{recording_end, recording_place, recording_pass, recording_room, recording_again}
-use Rattle.writer.proofs.document.Document.write_statements.Goals as goal
-use Rattle.writer.proofs.document.Document.write_statements.Goals.{After-part_end-stop}
+use Rattle.writer.proofs.document.Document.write_records.Goals as goal
+use Rattle.writer.proofs.document.Document.write_records.Goals.{After-part_end-stop}
 
 -- the part that starts here ends before the goal line
 placed : (c : After-part_end-stop) → (c.loop-i.i ≤ c.part_end-stop.result) × (c.part_end-stop.result < c.args.self.now.goal)
