@@ -7,8 +7,8 @@ use mathlib.Core.List.{List, [], ◌∷◌, ◌++◌}
 use native.Mathlib.Omega.{arith}
 use lib.ListN.{length, get_or, take, drop, length-take, length-drop, length-append}
 use lib.Seq.{get_or-take, get_or-drop, take_at}
-use Rattle.std.proofs.Common.{drop_at, add-zero}
-use Rattle.std.proofs.lemmas.List.{take_all}
+use Rattle.std.proofs.Common.{drop_at, drop-drop, add-zero}
+use Rattle.std.proofs.lemmas.List.{take_all, drop-take}
 use Rattle.image.specs.paper.Book.{Lit}
 use Rattle.image.specs.paper.Walk.{field_at}
 use Rattle.image.specs.paper.Faults.{limits}
@@ -51,6 +51,14 @@ module _ (s : List ℕ) (from to : ℕ) (ordered : from ≤ to) (within : to ≤
       ap₂ (λ (x y : ℕ). 256 * x + y)
       (get_or-take (to - from) (drop from s) at 0 (omega arith) ∙ get_or-drop from s at 0)
       (get_or-take (to - from) (drop from s) (at + 1) 0 (omega arith) ∙ get_or-drop from s (at + 1) 0 ∙ ap (λ (k : ℕ). get_or s k 0) next)
+
+  -- what is left behind the first n is a part too
+  pub part_rest : (n : ℕ) → from + n ≤ to → drop n (part s from to) ≡ part s (from + n) to
+  part_rest n h =
+      let more : to - from ≡ n + (to - (from + n)) = omega arith in
+      ap (λ (m : ℕ). drop n (take m (drop from s))) more
+      ∙ drop-take n (to - (from + n)) (drop from s)
+      ∙ ap (take (to - (from + n))) (drop-drop n from s)
 
   part_lits_from : (n at : ℕ) → from + at + 2 * n ≤ to → lits_at (part s from to) at n ≡ lits_at s (from + at) n
   unfolding lits_at

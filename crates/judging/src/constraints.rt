@@ -49,7 +49,8 @@ impl Judge<'_> {
 
     // The place of the first constraint that is broken, where one is.
     pub fn first_broken(&mut self) -> Option<usize>
-        ensures { result ≡ failing_at (meaning.holds (meaning.value (book_in self.old.image) self.old.set)) (book_in self.old.image).constraints }
+        ensures place { result ≡ failing_at (meaning.holds (meaning.value (book_in self.old.image) self.old.set)) (book_in self.old.image).constraints }
+        ensures same { self.new ≡ self.old }
     {
         let image = self.image;
         let counted = front::constraints(image);

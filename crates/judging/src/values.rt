@@ -13,7 +13,7 @@ use sets::members::is_in;
 use std::marker::Model;
 
 // There is a note for each atom there can be.
-const NOTES: usize = MOST_ATOMS as usize;
+pub const NOTES: usize = MOST_ATOMS as usize;
 
 // The bytes of a literal's field.
 const LITERAL: usize = 2;
@@ -85,7 +85,8 @@ impl<'a> Judge<'a> {
                 if fields::field_at(image, head) != atom {
                     continue;
                 }
-                for field in image[head + 2..end].chunks_exact(LITERAL) {
+                let clause = &image[head..end];
+                for field in clause[2..].chunks_exact(LITERAL) {
                     let (p, sign) = literal(field);
                     if self.value(p) != sign {
                         continue 'clauses;

@@ -33,13 +33,15 @@ fn find<F: Fn(u64) -> bool>(sets: &[u64], passes: F) -> Option<usize>
     ensures { (test : ℕ → Bool) → Decides (F.post passes) test → result ≡ first test sets.now }
 {
     let (rounds, rest) = sets.as_chunks::<ROUND>();
-    for (i, round) in rounds.iter().enumerate() {
-        if let Some(k) = place(round, &passes) {
-            return Some(ROUND * i + k);
+    'rounds: {
+        for (i, round) in rounds.iter().enumerate() {
+            if let Some(k) = place(round, &passes) {
+                break 'rounds Some(ROUND * i + k);
+            }
         }
+        let k = place(rest, &passes)?;
+        Some(ROUND * rounds.len() + k)
     }
-    let k = place(rest, &passes)?;
-    Some(ROUND * rounds.len() + k)
 }
 
 // Whether one of the kept sets is inside `set`.

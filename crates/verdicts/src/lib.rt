@@ -17,11 +17,17 @@ fn held<R: Print>(rt: &R, sorted: &Sorted) -> io::Result<()> {
         (sorted.possible, "possible"),
         (sorted.excluded, "ruled-out"),
     ];
+    let named = sorted.unexplained | sorted.needed | sorted.possible | sorted.excluded;
     print!(rt; "held")?;
     for h in 0..SET_BITS {
-        for (those, word) in verdicts {
-            if is_in(those, h) {
-                print!(rt; " {h}:{word}")?;
+        if named >> h == 0 {
+            break;
+        }
+        if is_in(named, h) {
+            for (those, word) in verdicts {
+                if is_in(those, h) {
+                    print!(rt; " {h}:{word}")?;
+                }
             }
         }
     }

@@ -53,18 +53,18 @@ returns-in-Some c =
 
 pub overflow_cast-result-in-Some-first_broken : goal.overflow_cast-result-in-Some-first_broken
 overflow_cast-result-in-Some-first_broken c =
-    omega (arith, place_in_constraints _ c.requires _ _ (c.in-Some-first_broken.ensures ∙ ap broken (c.first_false.ensures.same ∙ c.new-judge.ensures)))
+    omega (arith, place_in_constraints _ c.requires _ _ (c.in-Some-first_broken.ensures.place ∙ ap broken (c.first_false.ensures.same ∙ c.new-judge.ensures)))
 
 pub returns-in-Some-first_broken : goal.returns-in-Some-first_broken
 returns-in-Some-first_broken c =
     let lits : List Lit = lits_of (part c.args.image.now goal_at c.clauses.result) in
     answers_constraint _ c.requires _ _ _ c.abducibles.ensures.0 c.names_above.ensures c.if-names_above.false _ c.clauses.ensures
     (c.in_default.ensures.place ∙ ap (λ (v : ℕ → Bool). failing_at (true_in v) lits) (ap values c.new-judge.ensures))
-    _ (c.in-Some-first_broken.ensures ∙ ap broken (c.first_false.ensures.same ∙ c.new-judge.ensures))
+    _ (c.in-Some-first_broken.ensures.place ∙ ap broken (c.first_false.ensures.same ∙ c.new-judge.ensures))
 
 pub returns-in-None : goal.returns-in-None
 returns-in-None c =
     let lits : List Lit = lits_of (part c.args.image.now goal_at c.clauses.result) in
     answers_explains _ c.requires _ _ _ c.abducibles.ensures.0 c.names_above.ensures c.if-names_above.false _ c.clauses.ensures
     (c.in_default.ensures.place ∙ ap (λ (v : ℕ → Bool). failing_at (true_in v) lits) (ap values c.new-judge.ensures))
-    (c.in-None.ensures ∙ ap broken (c.first_false.ensures.same ∙ c.new-judge.ensures))
+    (c.in-None.ensures.place ∙ ap broken (c.first_false.ensures.same ∙ c.new-judge.ensures))

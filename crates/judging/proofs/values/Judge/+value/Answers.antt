@@ -1,6 +1,7 @@
 -- The proof of `value`, which calls itself. At every step what is left of the clause scan, and of the literal scan in it, decides the value (Scan.antt).
 -- Assumes nothing.
 use Rattle.std.proofs.Common.{◌≡◌, ◌+◌, ◌/◌, ◌≤◌, ◌<◌, ℕ, Bool, refl, sym, ap, ap₂, subst, ◌∙◌, List, length, arith}
+use Rattle.std.proofs.lemmas.List.{take_rest}
 use Rattle.std.specs.Slice.Iter.{chunks_exact_rest, chunks_exact_size}
 use Rattle.image.specs.paper.Walk.{field_at}
 use Rattle.image.specs.Accepted.{book_in, IsBook}
@@ -8,7 +9,7 @@ use Rattle.image.specs.Shown.{shown_front}
 use Rattle.image.specs.Places.{shows, clauses_fit}
 use Rattle.meaning.specs.paper.Meaning as meaning
 use Rattle.judging.specs.Notes.{Given}
-use Rattle.judging.proofs.Image.{few_atoms, few_abducibles, part, literal_is}
+use Rattle.judging.proofs.Image.{few_atoms, few_abducibles, part, part_length, part_rest, literal_is}
 use Rattle.judging.proofs.Memo.{noted_more, same_values}
 use Rattle.judging.proofs.Scan.{rank_in, value_set, Scan, Read, scan_start, scan_over, scan_clause, scan_behind, scan_other, scan_enter, read_over, read_under, read_false, read_true}
 use Rattle.judging.proofs.values.Judge.+value.Goals as goal
@@ -89,32 +90,43 @@ clauses-preserved-then-field_at-atom t c = (
       (λ h. c.if-field_at-atom.true (c.field_at-in-clauses.ensures.0 ∙ h)),
 )
 
-pub overflow_add-head-in-clauses : goal.overflow_add-head-in-clauses
-overflow_add-head-in-clauses t c =
+pub slice_bounds-clause-count : goal.slice_bounds-clause-count
+slice_bounds-clause-count t c =
     let w = inside _ c.self.invariant.book _ _ _ _ _ c.clauses.invariant.1 c.clauses-test.true _ c.field_at.ensures.0 in
-    omega (arith, w.0, w.1, c.self.told)
+    omega (arith, w.0)
+
+pub slice_bounds-clause-start : goal.slice_bounds-clause-start
+slice_bounds-clause-start t c =
+    let w = inside _ c.self.invariant.book _ _ _ _ _ c.clauses.invariant.1 c.clauses-test.true _ c.field_at.ensures.0 in
+    omega (arith, w.0)
+
+pub slice_bounds-clause-end : goal.slice_bounds-clause-end
+slice_bounds-clause-end t c = (inside _ c.self.invariant.book _ _ _ _ _ c.clauses.invariant.1 c.clauses-test.true _ c.field_at.ensures.0).1
 
 pub slice_bounds-chunks_exact-count : goal.slice_bounds-chunks_exact-count
 slice_bounds-chunks_exact-count t c =
     let w = inside _ c.self.invariant.book _ _ _ _ _ c.clauses.invariant.1 c.clauses-test.true _ c.field_at.ensures.0 in
-    omega (arith, w.0)
+    omega (arith, w.0, part_length c.self.inside.image.now (c.clauses.place + 2) (c.clauses.place + 2 + c.field_at.result) (omega (arith, w.0)) w.1)
 
 pub slice_bounds-chunks_exact-start : goal.slice_bounds-chunks_exact-start
 slice_bounds-chunks_exact-start t c =
     let w = inside _ c.self.invariant.book _ _ _ _ _ c.clauses.invariant.1 c.clauses-test.true _ c.field_at.ensures.0 in
-    omega (arith, w.0)
-
-pub slice_bounds-chunks_exact-end : goal.slice_bounds-chunks_exact-end
-slice_bounds-chunks_exact-end t c = (inside _ c.self.invariant.book _ _ _ _ _ c.clauses.invariant.1 c.clauses-test.true _ c.field_at.ensures.0).1
+    omega (arith, w.0, part_length c.self.inside.image.now (c.clauses.place + 2) (c.clauses.place + 2 + c.field_at.result) (omega (arith, w.0)) w.1)
 
 pub loop-field-init : goal.loop-field-init
 loop-field-init t c =
-    let read = scan_enter _ c.self.invariant.book _ _ _ _ _ c.clauses.invariant.1 c.clauses-test.true (c.clauses.place + 2 + 2) _ (omega arith)
-    (ap (λ (n : ℕ). c.clauses.place + 2 + n) c.field_at.ensures.0) (sym c.field_at-in-clauses.ensures.0 ∙ c.if-field_at-atom.false) in
-    let rest : part c.self.inside.image.now (c.clauses.place + 2 + 2) (c.clauses.place + 2 + c.field_at.result) ≡ chunks_exact_rest c.into_iter-field-iterator.result =
+    let w = inside _ c.self.invariant.book _ _ _ _ _ c.clauses.invariant.1 c.clauses-test.true _ c.field_at.ensures.0 in
+    let image = c.self.inside.image.now in
+    let head : ℕ = c.clauses.place + 2 in
+    let end : ℕ = head + c.field_at.result in
+    let read = scan_enter _ c.self.invariant.book _ _ _ _ _ c.clauses.invariant.1 c.clauses-test.true (head + 2) _ (omega arith)
+    (ap (λ (n : ℕ). head + n) c.field_at.ensures.0) (sym c.field_at-in-clauses.ensures.0 ∙ c.if-field_at-atom.false) in
+    let behind : part image (head + 2) end ≡ part (part image head end) 2 (length (part image head end)) =
+    sym (part_rest image head end (omega (arith, w.0)) w.1 2 (omega (arith, w.0))) ∙ sym (take_rest (part image head end) 2) in
+    let rest : part (part image head end) 2 (length (part image head end)) ≡ chunks_exact_rest c.into_iter-field-iterator.result =
     cc (c.chunks_exact-field-items.ensures.rest, c.into_iter-field-iterator.ensures.into_iter_gives) in
     let size : chunks_exact_size c.into_iter-field-iterator.result ≡ 2 = cc (c.chunks_exact-field-items.ensures.size, c.into_iter-field-iterator.ensures.into_iter_gives) in
-    (c.clauses.invariant.0, subst (Read c.self.inside.image.now c.args.self.now.set c.args.atom c.clauses.counter) rest read, size)
+    (c.clauses.invariant.0, subst (Read image c.args.self.now.set c.args.atom c.clauses.counter) (behind ∙ rest) read, size)
 
 -- the literal stands in the body, and its atom has a smaller rank
 pub value-requires : goal.value-requires

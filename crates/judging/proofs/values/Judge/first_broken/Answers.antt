@@ -36,12 +36,15 @@ holds-requires c =
     let k = held_here _ c.self.invariant.book _ _ _ _ c.loop-i.invariant.1 c.loop-i-test.true in
     (k.0, subst (λ (l : List ℕ). k.0 ∈ (book_in l).constraints) same k.1, subst (λ (l : List ℕ). Stands l c.loop-i.place (of_constraint k.0)) same k.2)
 
-pub returns-then-not-holds : goal.returns-then-not-holds
-returns-then-not-holds c =
+pub returns-then-not-holds-clause-place : goal.returns-then-not-holds-clause-place
+returns-then-not-holds-clause-place c =
     let image : c.self.inside.image.now ≡ c.args.self.now.image = ap (λ (g : Given). g.image) c.self.view_is in
     let told = says c.self.inside.image.now _ _ c.loop-i.invariant.0 image _ _ c.holds.ensures.held in
     held_false _ c.self.invariant.book _ _ _ _ c.loop-i.invariant.1 c.loop-i-test.true _ told c.if-not-holds.true
     ∙ ap (λ (l : List ℕ). failing_at (holds (value (book_in l) c.args.self.now.set)) (book_in l).constraints) image
+
+pub returns-then-not-holds-clause-same : goal.returns-then-not-holds-clause-same
+returns-then-not-holds-clause-same c = c.holds.ensures.same ∙ c.loop-i.invariant.0
 
 pub overflow_add-place-in-loop-i : goal.overflow_add-place-in-loop-i
 overflow_add-place-in-loop-i c = omega (arith, held_within _ c.self.invariant.book _ _ _ _ c.loop-i.invariant.1 c.loop-i-test.true, c.self.told)
@@ -61,8 +64,11 @@ loop-i-preserved c =
       held_true _ c.self.invariant.book _ _ _ _ c.loop-i.invariant.1 c.loop-i-test.true _ told _ c.field_at.ensures.0 c.if-not-holds.false,
     )
 
-pub returns : goal.returns
-returns c =
+pub returns-clause-place : goal.returns-clause-place
+returns-clause-place c =
     let image : c.self.inside.image.now ≡ c.args.self.now.image = ap (λ (g : Given). g.image) c.self.view_is in
     held_over _ c.self.invariant.book _ _ _ _ c.loop-i.invariant.1 (omega (arith, c.loop-i.auto.i-end, c.loop-i-test.false))
     ∙ ap (λ (l : List ℕ). failing_at (holds (value (book_in l) c.args.self.now.set)) (book_in l).constraints) image
+
+pub returns-clause-same : goal.returns-clause-same
+returns-clause-same c = c.loop-i.invariant.0
