@@ -5,10 +5,12 @@
 //   refused R room untouched | refused R room other
 #![tactic(auto)]
 
+ghost use Rattle.std.specs.Prelude.{◌≤◌, ◌≡◌, take, drop};
+
 use cases::{Stop, input};
 use image::refusals::Refusal;
+use std::io;
 use std::io::Read;
-use std::{fmt, io};
 
 // The most that a case may name: bytes of a text, and of a room.
 const TEXT: usize = 40000;
@@ -18,21 +20,42 @@ const ROOM: usize = 10000;
 // What every byte of a room is before a call.
 const BYTE: u8 = 165;
 
+const TEN: u8 = 10;
+
+const SIXTEEN: u8 = 16;
+
 pub fn room_buffer() -> [u8; ROOM] {
     [BYTE; ROOM]
 }
 
-// Bytes as they are told: two digits each.
-#[derive(Clone, Copy)]
-struct Hex<'a>(&'a [u8]);
-
-impl fmt::Display for Hex<'_> {
-    fn fmt<W: fmt::Write>(&self, f: &mut fmt::Formatter<W>) -> fmt::Result {
-        for byte in self.0 {
-            write!(f, "{byte:02x}")?;
-        }
-        Ok(())
+fn digit(x: u8) -> u8
+    requires { x ≤ 15 }
+{
+    if x < TEN {
+        return b'0' + x;
     }
+    b'a' + (x - TEN)
+}
+
+// These bytes, two digits each: a room at a time, which one write tells.
+fn hex<R: Print>(rt: &R, bytes: &[u8]) -> io::Result<()> {
+    for chunk in bytes.chunks(ROOM) {
+        let mut digits = [[0; 2]; ROOM];
+        for (pair, byte) in digits.iter_mut().zip(chunk) {
+            *pair = [digit(byte / SIXTEEN), digit(byte % SIXTEEN)];
+        }
+        rt.write_all(digits[..chunk.len()].as_flattened())?;
+    }
+    Ok(())
+}
+
+// What is told of a room where n bytes were written, no more than it has, and the rest.
+fn parted(room: &[u8], n: u32) -> (&[u8], &[u8])
+    ensures told { result.0.now ≡ take n room.now }
+    ensures rest { result.1.now ≡ drop n room.now }
+{
+    let told = room.len().min(n as usize);
+    room.split_at(told)
 }
 
 // How these bytes were left.
@@ -48,9 +71,10 @@ fn state(bytes: &[u8]) -> &'static str {
 fn tell<R: Print>(rt: &R, answer: Result<u32, Refusal>, room: &[u8]) -> io::Result<()> {
     match answer {
         Ok(n) => {
-            let told = room.len().min(n as usize);
-            let (bytes, rest) = room.split_at(told);
-            println!(rt; "written {n} bytes {} rest {}", Hex(bytes), state(rest))
+            let (bytes, rest) = parted(room, n);
+            print!(rt; "written {n} bytes ")?;
+            hex(rt, bytes)?;
+            println!(rt; " rest {}", state(rest))
         }
         Err(refusal) => println!(rt; "refused {refusal} room {}", state(room)),
     }
