@@ -5,7 +5,8 @@
 //   refused R room untouched | refused R room other
 #![tactic(auto)]
 
-ghost use Rattle.std.specs.Prelude.{◌≤◌, ◌≡◌, take, drop};
+ghost use Rattle.std.specs.Prelude.{◌≤◌, ◌≡◌, length, take, drop};
+ghost use Rattle.rooms.specs.Buffers.{text_bytes, room_bytes};
 
 use cases::{Stop, input};
 use image::refusals::Refusal;
@@ -15,7 +16,7 @@ use std::io::Read;
 // The most that a case may name: bytes of a text, and of a room.
 const TEXT: usize = 40000;
 
-const ROOM: usize = 10000;
+pub const ROOM: usize = 10000;
 
 // What every byte of a room is before a call.
 const BYTE: u8 = 165;
@@ -24,7 +25,15 @@ const TEN: u8 = 10;
 
 const SIXTEEN: u8 = 16;
 
-pub fn room_buffer() -> [u8; ROOM] {
+pub fn text_buffer() -> [u8; TEXT]
+    ensures { text_bytes ≡ length result }
+{
+    [0; TEXT]
+}
+
+pub fn room_buffer() -> [u8; ROOM]
+    ensures { room_bytes ≡ length result }
+{
     [BYTE; ROOM]
 }
 
@@ -68,7 +77,7 @@ fn state(bytes: &[u8]) -> &'static str {
 }
 
 // The line of an answer.
-fn tell<R: Print>(rt: &R, answer: Result<u32, Refusal>, room: &[u8]) -> io::Result<()> {
+pub fn tell<R: Print>(rt: &R, answer: Result<u32, Refusal>, room: &[u8]) -> io::Result<()> {
     match answer {
         Ok(n) => {
             let (bytes, rest) = parted(room, n);
@@ -101,7 +110,7 @@ pub fn case<R: Print, I: Read, F: Fn(&[u8], &mut [u8]) -> Result<u32, Refusal>>(
 ) -> Result<(), Stop>
     requires { F.IsAlwaysCallable call }
 {
-    let mut text = [0; TEXT];
+    let mut text = text_buffer();
     let mut room = room_buffer();
     let text = input::take_image(input, &mut text)?;
     let room = input::take_area(input, &mut room)?;
