@@ -1,5 +1,6 @@
 // The bytes of the files that arguments name.
-ghost use Rattle.std.specs.Prelude.{◌≤◌, ◌<◌, length, IfOk};
+ghost use Rattle.std.specs.Prelude.{◌≤◌, ◌<◌, ◌≡◌, length, IfOk};
+ghost use Rattle.arguments.specs.Buffers.{file_bytes, text_bytes};
 
 use crate::{NoJob, argument};
 use cases::input;
@@ -17,11 +18,15 @@ const TEXT: usize = LONGEST_TEXT + 1;
 // The longest name of a file, and one more.
 const PATH: usize = 4096;
 
-pub fn image_buffer() -> [u8; IMAGE] {
+pub fn image_buffer() -> [u8; IMAGE]
+    ensures { file_bytes ≡ length result }
+{
     [0; IMAGE]
 }
 
-pub fn text_buffer() -> [u8; TEXT] {
+pub fn text_buffer() -> [u8; TEXT]
+    ensures { text_bytes ≡ length result }
+{
     [0; TEXT]
 }
 

@@ -1,6 +1,7 @@
 // The cases' numbers, images and lists, taken from a reader. An image, a list or a room stands at the front of a buffer that is lent for it.
 
-ghost use Rattle.std.specs.Prelude.{◌≤◌, length, IfOk};
+ghost use Rattle.std.specs.Prelude.{◌≤◌, ◌≡◌, length, IfOk};
+ghost use Rattle.cases.specs.Buffers.{image_room, group_room, list_entries, area_numbers};
 
 use std::io;
 use std::io::Read;
@@ -14,28 +15,36 @@ const IMAGE: usize = 16384;
 
 const GROUP: usize = 1000;
 
-const ENTRIES: usize = 1100;
+pub const ENTRIES: usize = 1100;
 
-const WORK: usize = 20000;
+pub const WORK: usize = 20000;
 
 // What every list entry and every work number is before a call.
 const ENTRY: u64 = 7;
 
 pub const NUMBER: u32 = 9;
 
-pub fn image_buffer() -> [u8; IMAGE] {
+pub fn image_buffer() -> [u8; IMAGE]
+    ensures { image_room ≡ length result }
+{
     [0; IMAGE]
 }
 
-pub fn group_buffer() -> [u8; GROUP] {
+pub fn group_buffer() -> [u8; GROUP]
+    ensures { group_room ≡ length result }
+{
     [0; GROUP]
 }
 
-pub fn list_buffer() -> [u64; ENTRIES] {
+pub fn list_buffer() -> [u64; ENTRIES]
+    ensures { list_entries ≡ length result }
+{
     [ENTRY; ENTRIES]
 }
 
-pub fn work_buffer() -> [u32; WORK] {
+pub fn work_buffer() -> [u32; WORK]
+    ensures { area_numbers ≡ length result }
+{
     [NUMBER; WORK]
 }
 

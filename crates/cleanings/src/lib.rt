@@ -2,9 +2,10 @@
 // safe are taken, and a line is written for each group (paper 02, A4.10).
 #![tactic(auto)]
 
-ghost use Rattle.std.specs.Prelude.{◌≤◌, ◌<◌, length, IfOk};
+ghost use Rattle.std.specs.Prelude.{◌≤◌, ◌<◌, ◌≡◌, length, IfOk};
 ghost use Rattle.std.specs.Iterator.{at_most};
 ghost use Rattle.sets.specs.SetLaws.{set_bits};
+ghost use Rattle.cleanings.specs.Buffers.{groups_bytes};
 
 use area::END;
 use arguments::{NoJob, files, is_given, numbers};
@@ -34,6 +35,12 @@ const BYTES: usize = MOST_BYTES + 1;
 const SIZE: usize = 1;
 
 const COUNTED: usize = SIZE + 2;
+
+fn groups_buffer() -> [u8; BYTES]
+    ensures { groups_bytes ≡ length result }
+{
+    [0; BYTES]
+}
 
 // How long the first record is: by its own length field, or all bytes where they are too few for that.
 fn record_len(groups: &[u8]) -> usize
@@ -134,7 +141,7 @@ fn take_groups<'a, R: Env + Files + Input>(rt: &R, groups: &'a mut [u8]) -> Resu
 
 pub fn clean<R: Env + Files + Input + Print>(rt: &R) -> Result<(), NoJob> {
     let mut book = files::image_buffer();
-    let mut groups = [0; BYTES];
+    let mut groups = groups_buffer();
     let book = files::take_file(rt, BOOK, &mut book)?;
     let groups = take_groups(rt, &mut groups)?;
     let hypotheses = take_hypotheses(rt)?;

@@ -3,6 +3,10 @@
 // error.
 #![tactic(auto)]
 
+ghost use Rattle.std.specs.Prelude.{◌≡◌, length};
+ghost use Rattle.listing.specs.Buffers.{input_bytes, room};
+ghost use Rattle.area.specs.paper.Work.{work_numbers};
+
 use area::END;
 use cases::input;
 use engine::NoAnswer;
@@ -15,6 +19,24 @@ const BUDGET: u32 = 100_000;
 const ROOM: usize = 256;
 
 const INPUT: usize = LONGEST_IMAGE + 1;
+
+fn image_buffer() -> [u8; INPUT]
+    ensures { input_bytes ≡ length result }
+{
+    [0; INPUT]
+}
+
+fn list_buffer() -> [u64; ROOM]
+    ensures { room ≡ length result }
+{
+    [0; ROOM]
+}
+
+fn work_area() -> [u32; END]
+    ensures { work_numbers ≡ length result }
+{
+    [0; END]
+}
 
 // A space before each abducible of the set, ascending.
 fn members<R: Print>(rt: &R, set: u64) -> io::Result<()> {
@@ -58,9 +80,9 @@ fn show<R: Print>(rt: &R, image: &[u8], sets: &mut [u64], work: &mut [u32]) -> i
 }
 
 fn main(rt: HostRuntime) -> io::Result<()> {
-    let mut image = [0; INPUT];
-    let mut sets = [0; ROOM];
-    let mut work = [0; END];
+    let mut image = image_buffer();
+    let mut sets = list_buffer();
+    let mut work = work_area();
     let image = input::take_all(&mut rt.stdin(), &mut image)?;
     show(&rt, image, &mut sets, &mut work)
 }

@@ -5,34 +5,66 @@
 //   refused R room untouched | refused R room other
 #![tactic(auto)]
 
+ghost use Rattle.std.specs.Prelude.{◌≤◌, ◌≡◌, length, take, drop};
+ghost use Rattle.rooms.specs.Buffers.{text_bytes, room_bytes};
+
 use cases::{Stop, input};
 use image::refusals::Refusal;
+use std::io;
 use std::io::Read;
-use std::{fmt, io};
 
 // The most that a case may name: bytes of a text, and of a room.
 const TEXT: usize = 40000;
 
-const ROOM: usize = 10000;
+pub const ROOM: usize = 10000;
 
 // What every byte of a room is before a call.
 const BYTE: u8 = 165;
 
-pub fn room_buffer() -> [u8; ROOM] {
+const TEN: u8 = 10;
+
+const SIXTEEN: u8 = 16;
+
+pub fn text_buffer() -> [u8; TEXT]
+    ensures { text_bytes ≡ length result }
+{
+    [0; TEXT]
+}
+
+pub fn room_buffer() -> [u8; ROOM]
+    ensures { room_bytes ≡ length result }
+{
     [BYTE; ROOM]
 }
 
-// Bytes as they are told: two digits each.
-#[derive(Clone, Copy)]
-struct Hex<'a>(&'a [u8]);
-
-impl fmt::Display for Hex<'_> {
-    fn fmt<W: fmt::Write>(&self, f: &mut fmt::Formatter<W>) -> fmt::Result {
-        for byte in self.0 {
-            write!(f, "{byte:02x}")?;
-        }
-        Ok(())
+fn digit(x: u8) -> u8
+    requires { x ≤ 15 }
+{
+    if x < TEN {
+        return b'0' + x;
     }
+    b'a' + (x - TEN)
+}
+
+// These bytes, two digits each: a room at a time, which one write tells.
+fn hex<R: Print>(rt: &R, bytes: &[u8]) -> io::Result<()> {
+    for chunk in bytes.chunks(ROOM) {
+        let mut digits = [[0; 2]; ROOM];
+        for (pair, byte) in digits.iter_mut().zip(chunk) {
+            *pair = [digit(byte / SIXTEEN), digit(byte % SIXTEEN)];
+        }
+        rt.write_all(digits[..chunk.len()].as_flattened())?;
+    }
+    Ok(())
+}
+
+// What is told of a room where n bytes were written, no more than it has, and the rest.
+fn parted(room: &[u8], n: u32) -> (&[u8], &[u8])
+    ensures told { result.0.now ≡ take n room.now }
+    ensures rest { result.1.now ≡ drop n room.now }
+{
+    let told = room.len().min(n as usize);
+    room.split_at(told)
 }
 
 // How these bytes were left.
@@ -45,12 +77,13 @@ fn state(bytes: &[u8]) -> &'static str {
 }
 
 // The line of an answer.
-fn tell<R: Print>(rt: &R, answer: Result<u32, Refusal>, room: &[u8]) -> io::Result<()> {
+pub fn tell<R: Print>(rt: &R, answer: Result<u32, Refusal>, room: &[u8]) -> io::Result<()> {
     match answer {
         Ok(n) => {
-            let told = room.len().min(n as usize);
-            let (bytes, rest) = room.split_at(told);
-            println!(rt; "written {n} bytes {} rest {}", Hex(bytes), state(rest))
+            let (bytes, rest) = parted(room, n);
+            print!(rt; "written {n} bytes ")?;
+            hex(rt, bytes)?;
+            println!(rt; " rest {}", state(rest))
         }
         Err(refusal) => println!(rt; "refused {refusal} room {}", state(room)),
     }
@@ -77,7 +110,7 @@ pub fn case<R: Print, I: Read, F: Fn(&[u8], &mut [u8]) -> Result<u32, Refusal>>(
 ) -> Result<(), Stop>
     requires { F.IsAlwaysCallable call }
 {
-    let mut text = [0; TEXT];
+    let mut text = text_buffer();
     let mut room = room_buffer();
     let text = input::take_image(input, &mut text)?;
     let room = input::take_area(input, &mut room)?;

@@ -1,0 +1,2 @@
+-- The buffer that an image is taken into.
+pub mod Buffers

@@ -1,0 +1,2 @@
+-- The driver's own buffers.
+pub mod Buffers

@@ -1,0 +1,2 @@
+-- The buffer that a file of groups is taken into.
+pub mod Buffers

@@ -1,0 +1,2 @@
+-- The program's own buffers.
+pub mod Buffers

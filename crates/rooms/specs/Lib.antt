@@ -1,0 +1,2 @@
+-- The programs' own buffers of bytes.
+pub mod Buffers
