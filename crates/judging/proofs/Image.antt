@@ -8,6 +8,10 @@ use native.Mathlib.Omega.{arith}
 use lib.ListN.{length, get_or, take, drop, length-take, length-drop, length-append}
 use lib.Seq.{get_or-take, get_or-drop, take_at}
 use Rattle.std.proofs.Common.{drop_at, drop-drop, add-zero}
+use Rattle.std.specs.Prelude.{Option, Some, None}
+use Rattle.std.specs.Slice.Iter.{chunks_exact_rest, chunks_exact_size, chunks_exact_steps}
+use denote.Ref.{Bor}
+use Rattle.std.specs.declared.slice.ChunksExact.{ChunksExact}
 use Rattle.std.proofs.lemmas.List.{take_all, drop-take}
 use Rattle.image.specs.paper.Book.{Lit}
 use Rattle.image.specs.paper.Walk.{field_at}
@@ -100,6 +104,12 @@ module _ (rest x more : List ℕ) (split : rest ≡ x ++ more) (two : length x �
       ∙ ap₂ (λ (n : ℕ) (ls : List Lit). lit_of n ∷ ls)
       (sym (part_field rest 0 2 (omega arith) inside 0 (omega arith)) ∙ ap (λ (l : List ℕ). field_at l 0) front)
       (sym (part_lits rest 2 (length rest) inside (omega arith)) ∙ ap lits_of back)
+
+-- what is left behind the first field, once it is taken
+pub behind_first : (r : Option (Bor (List ℕ))) (s t : ChunksExact ℕ) → 2 ≤ length (chunks_exact_rest s) → chunks_exact_size s ≡ 2 → chunks_exact_steps s r t
+    → chunks_exact_rest t ≡ drop 2 (chunks_exact_rest s)
+behind_first None s t long two w = absurd (omega (arith, w.1.0, long, two))
+behind_first (Some x) s t long two w = sym (ap (drop 2) w.1.0 ∙ drop_at x.now (chunks_exact_rest t) 2 (w.1.1 ∙ two))
 
 -- ---- a literal's truth, by its atom's value
 

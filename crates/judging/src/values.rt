@@ -15,8 +15,8 @@ use std::marker::Model;
 // There is a note for each atom there can be.
 pub const NOTES: usize = MOST_ATOMS as usize;
 
-// The bytes of a literal's field.
-const LITERAL: usize = 2;
+// The bytes of a field.
+const FIELD: usize = 2;
 
 // What judges: an accepted image, a set, and a note of each value once it is found, so that each atom is valued once.
 #[derive(Drop)]
@@ -78,21 +78,25 @@ impl<'a> Judge<'a> {
         let count = fields::field_at(image, counted);
         let mut place = counted + 2;
         let met = 'found: {
-            'clauses: for _ in 0..count {
+            for _ in 0..count {
                 let head = place + 2;
-                let end = head + fields::field_at(image, place) as usize;
-                place = end;
-                if fields::field_at(image, head) != atom {
-                    continue;
-                }
-                let clause = &image[head..end];
-                for field in clause[2..].chunks_exact(LITERAL) {
-                    let (p, sign) = literal(field);
-                    if self.value(p) != sign {
-                        continue 'clauses;
+                if fields::field_at(image, head) == atom {
+                    'body: {
+                        let end = head + fields::field_at(image, place) as usize;
+                        // The head's field, then the literals'.
+                        let mut clause = image[head..end].chunks_exact(FIELD);
+                        clause.next();
+                        for field in clause {
+                            let (p, sign) = literal(field);
+                            if self.value(p) != sign {
+                                break 'body;
+                            }
+                        }
+                        break 'found true;
                     }
                 }
-                break 'found true;
+                // The size is read anew: one kept over the calls of `value` would go over the stack at every clause.
+                place = head + fields::field_at(image, place) as usize;
             }
             false
         };
@@ -106,7 +110,7 @@ impl<'a> Judge<'a> {
         ensures place { result ≡ failing_at (meaning.true_in (meaning.value (book_in self.old.image) self.old.set)) (lits_of literals.now) }
         ensures same { self.new ≡ self.old }
     {
-        for (i, field) in literals.chunks_exact(LITERAL).enumerate() {
+        for (i, field) in literals.chunks_exact(FIELD).enumerate() {
             let (p, sign) = literal(field);
             if self.value(p) != sign {
                 return Some(i);

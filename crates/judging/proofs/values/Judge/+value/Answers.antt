@@ -1,7 +1,6 @@
 -- The proof of `value`, which calls itself. At every step what is left of the clause scan, and of the literal scan in it, decides the value (Scan.antt).
 -- Assumes nothing.
-use Rattle.std.proofs.Common.{◌≡◌, ◌+◌, ◌/◌, ◌≤◌, ◌<◌, ℕ, Bool, refl, sym, ap, ap₂, subst, ◌∙◌, List, length, arith}
-use Rattle.std.proofs.lemmas.List.{take_rest}
+use Rattle.std.proofs.Common.{◌≡◌, ◌+◌, ◌/◌, ◌≤◌, ◌<◌, ℕ, Bool, refl, sym, ap, ap₂, subst, ◌∙◌, List, length, drop, arith}
 use Rattle.std.specs.Slice.Iter.{chunks_exact_rest, chunks_exact_size}
 use Rattle.image.specs.paper.Walk.{field_at}
 use Rattle.image.specs.Accepted.{book_in, IsBook}
@@ -9,11 +8,11 @@ use Rattle.image.specs.Shown.{shown_front}
 use Rattle.image.specs.Places.{shows, clauses_fit}
 use Rattle.meaning.specs.paper.Meaning as meaning
 use Rattle.judging.specs.Notes.{Given}
-use Rattle.judging.proofs.Image.{few_atoms, few_abducibles, part, part_length, part_rest, literal_is}
+use Rattle.judging.proofs.Image.{few_atoms, few_abducibles, part, part_length, part_rest, behind_first, literal_is}
 use Rattle.judging.proofs.Memo.{noted_more, same_values}
 use Rattle.judging.proofs.Scan.{rank_in, value_set, Scan, Read, scan_start, scan_over, scan_clause, scan_behind, scan_other, scan_enter, read_over, read_under, read_false, read_true}
 use Rattle.judging.proofs.values.Judge.+value.Goals as goal
-use Rattle.judging.proofs.values.Judge.+value.Goals.{then-clauses-test+else-field_at-atom+in-None, else-clauses-test}
+use Rattle.judging.proofs.values.Judge.+value.Goals.{then-loop-test+then-field_at-atom+in-None, else-loop-test, then-field_at-atom+in-Some-field+then-value-sign, else-field_at-atom}
 
 -- there is a note for each atom
 small : (s : List ℕ) → IsBook s → (g : Given) → s ≡ g.image → (atom : ℕ) → atom < (book_in g.image).atoms → atom < 256
@@ -58,75 +57,61 @@ field_at-count-requires t c = omega (arith, clauses_fit _ c.self.invariant.book,
 pub overflow_add-place : goal.overflow_add-place
 overflow_add-place t c = omega (arith, clauses_fit _ c.self.invariant.book, c.clauses-counted.ensures, c.self.told)
 
-pub clauses-init : goal.clauses-init
-clauses-init t c =
+pub loop-init : goal.loop-init
+loop-init t c =
     let defined : (book_in c.self.inside.image.now).abducibles ≤ c.args.atom = omega (arith, (shows _ c.self.invariant.book).abducibles, c.abducibles.ensures.0, c.if-atom-abducibles.false) in
     (refl, scan_start _ c.self.invariant.book _ _ _ _ defined c.field_at-count.ensures.0 c.clauses-counted.ensures)
 
 pub overflow_add-head : goal.overflow_add-head
 overflow_add-head t c =
-    let clause = scan_clause _ c.self.invariant.book _ _ _ _ _ c.clauses.invariant.1 c.clauses-test.true in
+    let clause = scan_clause _ c.self.invariant.book _ _ _ _ _ c.loop.invariant.1 c.loop-test.true in
     omega (arith, clause.headed, clause.ended, c.self.told)
 
 pub field_at-requires : goal.field_at-requires
 field_at-requires t c =
-    let clause = scan_clause _ c.self.invariant.book _ _ _ _ _ c.clauses.invariant.1 c.clauses-test.true in
+    let clause = scan_clause _ c.self.invariant.book _ _ _ _ _ c.loop.invariant.1 c.loop-test.true in
     omega (arith, clause.headed, clause.ended)
 
 pub overflow_add-end : goal.overflow_add-end
 overflow_add-end t c =
-    omega (arith, (inside _ c.self.invariant.book _ _ _ _ _ c.clauses.invariant.1 c.clauses-test.true _ c.field_at.ensures.0).1, c.self.told)
+    omega (arith, (inside _ c.self.invariant.book _ _ _ _ _ c.loop.invariant.1 c.loop-test.true _ c.field_at-then-field_at-atom.ensures.0).1, c.self.told)
 
-pub field_at-requires-in-clauses : goal.field_at-requires-in-clauses
-field_at-requires-in-clauses t c =
-    let w = inside _ c.self.invariant.book _ _ _ _ _ c.clauses.invariant.1 c.clauses-test.true _ c.field_at.ensures.0 in
-    omega (arith, w.0, w.1)
-
--- where the head is another atom: on to the next clause
-pub clauses-preserved-then-field_at-atom : goal.clauses-preserved-then-field_at-atom
-clauses-preserved-then-field_at-atom t c = (
-  c.clauses.invariant.0,
-  scan_other _ c.self.invariant.book _ _ _ _ _ c.clauses.invariant.1 c.clauses-test.true _ (ap (λ (n : ℕ). c.clauses.place + 2 + n) c.field_at.ensures.0)
-      (λ h. c.if-field_at-atom.true (c.field_at-in-clauses.ensures.0 ∙ h)),
-)
-
-pub slice_bounds-clause-count : goal.slice_bounds-clause-count
-slice_bounds-clause-count t c =
-    let w = inside _ c.self.invariant.book _ _ _ _ _ c.clauses.invariant.1 c.clauses-test.true _ c.field_at.ensures.0 in
-    omega (arith, w.0)
-
-pub slice_bounds-clause-start : goal.slice_bounds-clause-start
-slice_bounds-clause-start t c =
-    let w = inside _ c.self.invariant.book _ _ _ _ _ c.clauses.invariant.1 c.clauses-test.true _ c.field_at.ensures.0 in
-    omega (arith, w.0)
-
-pub slice_bounds-clause-end : goal.slice_bounds-clause-end
-slice_bounds-clause-end t c = (inside _ c.self.invariant.book _ _ _ _ _ c.clauses.invariant.1 c.clauses-test.true _ c.field_at.ensures.0).1
+pub field_at-requires-then-field_at-atom : goal.field_at-requires-then-field_at-atom
+field_at-requires-then-field_at-atom t c =
+    let clause = scan_clause _ c.self.invariant.book _ _ _ _ _ c.loop.invariant.1 c.loop-test.true in
+    omega (arith, clause.headed, clause.ended)
 
 pub slice_bounds-chunks_exact-count : goal.slice_bounds-chunks_exact-count
 slice_bounds-chunks_exact-count t c =
-    let w = inside _ c.self.invariant.book _ _ _ _ _ c.clauses.invariant.1 c.clauses-test.true _ c.field_at.ensures.0 in
-    omega (arith, w.0, part_length c.self.inside.image.now (c.clauses.place + 2) (c.clauses.place + 2 + c.field_at.result) (omega (arith, w.0)) w.1)
+    let w = inside _ c.self.invariant.book _ _ _ _ _ c.loop.invariant.1 c.loop-test.true _ c.field_at-then-field_at-atom.ensures.0 in
+    omega (arith, w.0)
 
 pub slice_bounds-chunks_exact-start : goal.slice_bounds-chunks_exact-start
 slice_bounds-chunks_exact-start t c =
-    let w = inside _ c.self.invariant.book _ _ _ _ _ c.clauses.invariant.1 c.clauses-test.true _ c.field_at.ensures.0 in
-    omega (arith, w.0, part_length c.self.inside.image.now (c.clauses.place + 2) (c.clauses.place + 2 + c.field_at.result) (omega (arith, w.0)) w.1)
+    let w = inside _ c.self.invariant.book _ _ _ _ _ c.loop.invariant.1 c.loop-test.true _ c.field_at-then-field_at-atom.ensures.0 in
+    omega (arith, w.0)
+
+pub slice_bounds-chunks_exact-end : goal.slice_bounds-chunks_exact-end
+slice_bounds-chunks_exact-end t c =
+    let w = inside _ c.self.invariant.book _ _ _ _ _ c.loop.invariant.1 c.loop-test.true _ c.field_at-then-field_at-atom.ensures.0 in
+    omega (arith, w.1)
 
 pub loop-field-init : goal.loop-field-init
 loop-field-init t c =
-    let w = inside _ c.self.invariant.book _ _ _ _ _ c.clauses.invariant.1 c.clauses-test.true _ c.field_at.ensures.0 in
+    let w = inside _ c.self.invariant.book _ _ _ _ _ c.loop.invariant.1 c.loop-test.true _ c.field_at-then-field_at-atom.ensures.0 in
     let image = c.self.inside.image.now in
-    let head : ℕ = c.clauses.place + 2 in
-    let end : ℕ = head + c.field_at.result in
-    let read = scan_enter _ c.self.invariant.book _ _ _ _ _ c.clauses.invariant.1 c.clauses-test.true (head + 2) _ (omega arith)
-    (ap (λ (n : ℕ). head + n) c.field_at.ensures.0) (sym c.field_at-in-clauses.ensures.0 ∙ c.if-field_at-atom.false) in
-    let behind : part image (head + 2) end ≡ part (part image head end) 2 (length (part image head end)) =
-    sym (part_rest image head end (omega (arith, w.0)) w.1 2 (omega (arith, w.0))) ∙ sym (take_rest (part image head end) 2) in
-    let rest : part (part image head end) 2 (length (part image head end)) ≡ chunks_exact_rest c.into_iter-field-iterator.result =
-    cc (c.chunks_exact-field-items.ensures.rest, c.into_iter-field-iterator.ensures.into_iter_gives) in
-    let size : chunks_exact_size c.into_iter-field-iterator.result ≡ 2 = cc (c.chunks_exact-field-items.ensures.size, c.into_iter-field-iterator.ensures.into_iter_gives) in
-    (c.clauses.invariant.0, subst (Read image c.args.self.now.set c.args.atom c.clauses.counter) (behind ∙ rest) read, size)
+    let head : ℕ = c.loop.place + 2 in
+    let end : ℕ = head + c.field_at-then-field_at-atom.result in
+    let read = scan_enter _ c.self.invariant.book _ _ _ _ _ c.loop.invariant.1 c.loop-test.true (head + 2) _ (omega arith)
+    (ap (λ (n : ℕ). head + n) c.field_at-then-field_at-atom.ensures.0) (sym c.field_at.ensures.0 ∙ c.if-field_at-atom.true) in
+    let clause : chunks_exact_rest c.chunks_exact-clause.result ≡ part image head end = c.chunks_exact-clause.ensures.rest in
+    let two : chunks_exact_size c.chunks_exact-clause.result ≡ 2 = c.chunks_exact-clause.ensures.size in
+    let long : 2 ≤ length (chunks_exact_rest c.chunks_exact-clause.result) = omega (arith, w.0, part_length image head end (omega (arith, w.0)) w.1, ap length clause) in
+    let body : part image (head + 2) end ≡ chunks_exact_rest c.into_iter-field-iterator.result =
+    sym (part_rest image head end (omega (arith, w.0)) w.1 2 (omega (arith, w.0))) ∙ sym (ap (drop 2) clause) ∙ sym (behind_first _ _ _ long two c.next.ensures.steps)
+    ∙ sym (ap chunks_exact_rest c.into_iter-field-iterator.ensures.into_iter_gives) in
+    let size : chunks_exact_size c.into_iter-field-iterator.result ≡ 2 = ap chunks_exact_size c.into_iter-field-iterator.ensures.into_iter_gives ∙ c.next.ensures.steps.0 ∙ two in
+    (c.loop.invariant.0, subst (Read image c.args.self.now.set c.args.atom c.loop.counter) body read, size)
 
 -- the literal stands in the body, and its atom has a smaller rank
 pub value-requires : goal.value-requires
@@ -142,16 +127,33 @@ value-requires t c =
     omega (arith, u.lower, rank, ap (λ (l : List ℕ). rank_in l c.args.atom) image) in
     (subst (λ (j : ℕ). rank_in c.loop-field.self.image c.literal-p.result.0 < j) c.decreases falls, known)
 
-pub clauses-preserved : goal.clauses-preserved
-clauses-preserved t c =
-    let two = c.in-Some-field.ensures.steps.1.1 ∙ c.loop-field.invariant.2 in
-    let image : c.self.inside.image.now ≡ c.args.self.now.image = ap (λ (g : Given). g.image) c.self.view_is in
-    let told = c.value.ensures.value ∙ ap (λ (f : ℕ → Bool). f c.literal-p.result.0) (same_values _ _ _ c.loop-field.invariant.0 image) in
-    let truth = literal_is (meaning.value (book_in c.self.inside.image.now) c.args.self.now.set) _ _ c.literal-p.ensures _ told _ c.if-value-sign.true in (
-      c.value.ensures.same ∙ c.loop-field.invariant.0,
-      scan_behind _ c.self.invariant.book _ _ _ _ _ c.clauses.invariant.1 c.clauses-test.true _ (ap (λ (n : ℕ). c.clauses.place + 2 + n) c.field_at.ensures.0)
-          (read_false _ _ _ _ _ c.loop-field.invariant.1 _ _ c.in-Some-field.ensures.steps.1.0 two truth),
-    )
+pub overflow_add-place-in-loop : goal.overflow_add-place-in-loop
+overflow_add-place-in-loop t c =
+    omega (arith, (inside _ c.self.invariant.book _ _ _ _ _ c.loop.invariant.1 c.loop-test.true _ c.field_at-in-loop.ensures.0).1, c.self.told)
+
+pub field_at-requires-in-loop : goal.field_at-requires-in-loop
+field_at-requires-in-loop t c =
+    let clause = scan_clause _ c.self.invariant.book _ _ _ _ _ c.loop.invariant.1 c.loop-test.true in
+    omega (arith, clause.headed, clause.ended)
+
+pub loop-preserved : goal.loop-preserved
+loop-preserved t c =
+    let end : c.loop.place + 2 + c.field_at-in-loop.result ≡ c.loop.place + 2 + field_at c.self.inside.image.now c.loop.place = ap (λ (n : ℕ). c.loop.place + 2 + n) c.field_at-in-loop.ensures.0 in
+    elim c.if-field_at-atom.branch [
+      | then-field_at-atom+in-Some-field+then-value-sign w ↦
+          let two = w.in-Some-field.ensures.steps.1.1 ∙ w.loop-field.invariant.2 in
+          let image : c.self.inside.image.now ≡ c.args.self.now.image = ap (λ (g : Given). g.image) c.self.view_is in
+          let told = w.value.ensures.value ∙ ap (λ (f : ℕ → Bool). f w.literal-p.result.0) (same_values _ _ _ w.loop-field.invariant.0 image) in
+          let truth = literal_is (meaning.value (book_in c.self.inside.image.now) c.args.self.now.set) _ _ w.literal-p.ensures _ told _ w.if-value-sign.true in (
+            w.self-is ∙ w.value.ensures.same ∙ w.loop-field.invariant.0,
+            scan_behind _ c.self.invariant.book _ _ _ _ _ c.loop.invariant.1 c.loop-test.true _ end
+                (read_false _ _ _ _ _ w.loop-field.invariant.1 _ _ w.in-Some-field.ensures.steps.1.0 two truth),
+          )
+      | else-field_at-atom w ↦ (
+        w.self-is ∙ c.loop.invariant.0,
+        scan_other _ c.self.invariant.book _ _ _ _ _ c.loop.invariant.1 c.loop-test.true _ end (λ h. w.if-field_at-atom.false (c.field_at.ensures.0 ∙ h)),
+      )
+    ]
 
 pub loop-field-preserved : goal.loop-field-preserved
 loop-field-preserved t c =
@@ -173,20 +175,20 @@ returns-clause-value t c =
     let image : c.self.inside.image.now ≡ c.args.self.now.image = ap (λ (g : Given). g.image) c.self.view_is in
     let is : (m : Bool) → meaning.value (book_in c.self.inside.image.now) c.args.self.now.set c.args.atom ≡ m → m ≡ meaning.value (book_in c.args.self.now.image) c.args.self.now.set c.args.atom =
     λ m e. sym e ∙ ap (λ (l : List ℕ). meaning.value (book_in l) c.args.self.now.set c.args.atom) image in
-    elim c.clauses-test.branch [
-      | then-clauses-test+else-field_at-atom+in-None w ↦
-          is c.clauses-test.met
+    elim c.loop-test.branch [
+      | then-loop-test+then-field_at-atom+in-None w ↦
+          is c.loop-test.met
           (read_over _ _ _ _ _ w.loop-field.invariant.1 (omega (arith, w.in-None.ensures.steps.1.0, w.loop-field.invariant.2)) ∙ sym w.met-is)
-      | else-clauses-test w ↦
-          is c.clauses-test.met (scan_over _ c.self.invariant.book _ _ _ _ _ c.clauses.invariant.1 (omega (arith, c.clauses.auto.counter-end, w.clauses-test.false)) ∙ sym w.met-is)
+      | else-loop-test w ↦
+          is c.loop-test.met (scan_over _ c.self.invariant.book _ _ _ _ _ c.loop.invariant.1 (omega (arith, c.loop.auto.counter-end, w.loop-test.false)) ∙ sym w.met-is)
     ]
 
 pub invariant_of-self-2 : goal.invariant_of-self-2
 invariant_of-self-2 t c =
-    let same : c.clauses-test.self ≡ c.args.self.now =
-    elim c.clauses-test.branch [
-      | then-clauses-test+else-field_at-atom+in-None w ↦ w.self-is ∙ w.loop-field.invariant.0
-      | else-clauses-test w ↦ w.self-is ∙ c.clauses.invariant.0
+    let same : c.loop-test.self ≡ c.args.self.now =
+    elim c.loop-test.branch [
+      | then-loop-test+then-field_at-atom+in-None w ↦ w.self-is ∙ w.loop-field.invariant.0
+      | else-loop-test w ↦ w.self-is ∙ c.loop.invariant.0
     ] in
     noted_more _ _ _ _ _ c.self-2.invariant
     (returns-clause-value t c ∙ sym (ap (λ (g : Given). meaning.value (book_in g.image) g.set c.args.atom) (c.self-2.view_is ∙ same)))

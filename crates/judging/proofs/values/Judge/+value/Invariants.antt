@@ -11,5 +11,5 @@ decreases-value l = rank_in l.self.now.image l.atom
 abbrev pub invariant-loop-field : given.invariant-loop-field
 invariant-loop-field l = (l.self ≡ l.fn.self) × Read l.image l.fn.self.set l.atom l.counter (chunks_exact_rest l.field-iterator) × (chunks_exact_size l.field-iterator ≡ 2)
 
-abbrev pub invariant-clauses : given.invariant-clauses
-invariant-clauses l = (l.self ≡ l.fn.self) × Scan l.image l.fn.self.set l.atom l.count l.place l.counter
+abbrev pub invariant-loop : given.invariant-loop
+invariant-loop l = (l.self ≡ l.fn.self) × Scan l.image l.fn.self.set l.atom l.count l.place l.counter
